@@ -1,0 +1,9 @@
+// The class examples and published curve points, run through the module and compared with what they should be.
+mod curves;
+mod line;
+
+fn main() {
+    curves::ansi_table();
+    curves::iec_points();
+    curves::ratios();
+}

@@ -1,0 +1,73 @@
+-- `curve::time::inverse_part` meets its contract: by cases on the power.
+-- Assumes nothing.
+use Prim.Native.Nat.{_≤_}
+use native.Mathlib.Nat.{mul-le-mul}
+use native.Mathlib.Omega.{arith}
+use borrow.Author.Needs.{needs}
+use Rattle.curve.proofs.PowerRule.{X-at-most}
+use Rattle.curve.proofs.RoundingLaws.{rounded-up-by-one-division}
+use Rattle.curve.proofs.TimeLaws.{square-above}
+use Rattle.curve.proofs.time.inverse_part.Statement.{statement}
+use Rattle.curve.proofs.time.inverse_part.Tie as tie
+
+enum-told : tie.Need-enum-told
+enum-told c = search needs
+
+x-of-requires : tie.Need-x-of-requires
+x-of-requires c κs = search needs
+
+mul-result : tie.Need-mul-result
+mul-result c =
+    let x : c .x-of .result ≤ 10000000000 = rw (c .x-of .ensures) (X-at-most _) in
+    omega (arith, mul-le-mul (c .before .before .before .pre .0) x)
+
+add-result : tie.Need-add-result
+add-result c =
+    let x : c .x-of .result ≤ 10000000000 = rw (c .x-of .ensures) (X-at-most _) in
+    omega (arith, mul-le-mul (c .before .before .before .pre .0) x)
+
+enum-told-2 : tie.Need-enum-told-2
+enum-told-2 c = search needs
+
+mul-round-up : tie.Need-mul-round-up
+mul-round-up c = search needs
+
+sub-round-up : tie.Need-sub-round-up
+sub-round-up c = search needs
+
+round-up-requires : tie.Need-round-up-requires
+round-up-requires c κs = search needs
+
+enum-told-3 : tie.Need-enum-told-3
+enum-told-3 c = search needs
+
+mul-round-up-2 : tie.Need-mul-round-up-2
+mul-round-up-2 c = search needs
+
+mul-round-up-3 : tie.Need-mul-round-up-3
+mul-round-up-3 c =
+    let square = square-above _ (c .before .before .pre .1) (c .before .before .pre .2) in
+    omega arith
+
+sub-round-up-2 : tie.Need-sub-round-up-2
+sub-round-up-2 c =
+    let square = square-above _ (c .before .before .pre .1) (c .before .before .pre .2) in
+    omega arith
+
+round-up-requires-2 : tie.Need-round-up-requires-2
+round-up-requires-2 c κs =
+    let square = square-above _ (c .before .before .pre .1) (c .before .before .pre .2) in
+    omega arith
+
+returns : tie.Need-returns
+returns c =
+    rw (c .before .enum-told .given .1, ← c .x-of .ensures) (rounded-up-by-one-division _ 10000 (omega arith))
+
+returns-2 : tie.Need-returns-2
+returns-2 c = rw (c .before .enum-told2 .given .1) (c .round-up .ensures)
+
+returns-3 : tie.Need-returns-3
+returns-3 c = rw (c .before .enum-told3 .given .1) (c .round-up2 .ensures)
+
+pub inverse-part-spec : {M : Type 1} → statement M
+inverse-part-spec = tie.close (tie.spec enum-told x-of-requires mul-result add-result enum-told-2 mul-round-up sub-round-up round-up-requires enum-told-3 mul-round-up-2 mul-round-up-3 sub-round-up-2 round-up-requires-2 returns returns-2 returns-3)
