@@ -1,9 +1,11 @@
 // The class examples and published curve points, run through the module and compared with what they should be.
 mod curves;
 mod line;
+mod phases;
 
 fn main() {
     curves::ansi_table();
     curves::iec_points();
     curves::ratios();
+    phases::phase_examples();
 }

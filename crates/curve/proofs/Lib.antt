@@ -3,4 +3,3 @@ pub mod RoundingLaws
 pub mod PowerRule
 pub mod TimeLaws
 pub mod GainLaws
-mod ClassTimes

@@ -19,13 +19,13 @@ hasOperateTime op m = between 2 12 op && between 101 2000 m
 abbrev pub hasResetTime : ℕ → ℕ → Bool
 hasResetTime op m = between 6 12 op && leb m 99
 
--- "c plus, rounded up: a = 1: k x 10,000 / (m - 100); a = 2: k x 1,000,000 / (m x m - 10,000); a = 0.02: k x X(m) / 10,000"
+-- "rounded up: a = 1: k x 10,000 / (m - 100); a = 2: k x 1,000,000 / (m x m - 10,000); a = 0.02: k x X(m) / 10,000"
 abbrev pub inversePart : Power → ℕ → ℕ → ℕ
 inversePart First k m = roundedUp (k * 10000) (m - 100)
 inversePart Second k m = roundedUp (k * 1000000) (m * m - 10000)
 inversePart Fiftieth k m = roundedUp (k * X m) 10000
 
--- the operate time T at multiplier 1; 0 where the paper gives none
+-- "the operate time T in microseconds at multiplier 1 is c plus" that; 0 where the paper gives none
 unfoldable pub operateTime : ℕ → ℕ → ℕ
 operateTime op m =
     cond (hasOperateTime op m) (constantsOf op .c + inversePart (constantsOf op .a) (constantsOf op .k) m) 0

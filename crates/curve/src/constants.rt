@@ -30,17 +30,17 @@ pub fn constants_of(operation: u32) -> Constants
     ensures { λ r. ⌜ r ≡ constantsOf operation ⌝ }
 {
     match operation {
-        2 => row(1400, 0, Power::Fiftieth, 0),
-        3 => row(135000, 0, Power::First, 0),
-        4 => row(800000, 0, Power::Second, 0),
-        5 => row(1200000, 0, Power::First, 0),
-        6 => row(86, 18500, Power::Fiftieth, 4600),
-        7 => row(515, 114000, Power::Fiftieth, 48500),
-        8 => row(196100, 491000, Power::Second, 216000),
-        9 => row(282000, 121700, Power::Second, 291000),
-        10 => row(860, 185000, Power::Fiftieth, 46000),
-        11 => row(285500, 712000, Power::Second, 134600),
-        12 => row(640700, 250000, Power::Second, 300000),
+        2 => row(1400, 0, Power::Fiftieth, 0), // IEC Inv
+        3 => row(135000, 0, Power::First, 0), // IEC VeryInv
+        4 => row(800000, 0, Power::Second, 0), // IEC ExtInv
+        5 => row(1200000, 0, Power::First, 0), // IEC LongInv
+        6 => row(86, 18500, Power::Fiftieth, 4600), // ANSI Inv
+        7 => row(515, 114000, Power::Fiftieth, 48500), // ANSI ModInv
+        8 => row(196100, 491000, Power::Second, 216000), // ANSI VeryInv
+        9 => row(282000, 121700, Power::Second, 291000), // ANSI ExtInv
+        10 => row(860, 185000, Power::Fiftieth, 46000), // ANSI LongInv
+        11 => row(285500, 712000, Power::Second, 134600), // ANSI LongVeryInv
+        12 => row(640700, 250000, Power::Second, 300000), // ANSI LongExtInv
         _ => row(0, 0, Power::First, 0),
     }
 }

@@ -6,7 +6,8 @@ use crate::rounding::quotient;
 use crate::time::operate_time;
 use crate::time::reset_time;
 
-// 10^14: a time in microseconds into which it goes is a tick's share of the trip level at multiplier 1.
+// The trip level at multiplier 1.00, which is 10^11, times the 1,000 microseconds of a tick: divided by a time it is what one
+// tick adds or takes.
 const TICK_SHARE: u64 = 100000000000000;
 
 fn curve_gain(operation: u32, ratio: u32) -> u64

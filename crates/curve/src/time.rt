@@ -7,7 +7,7 @@ use crate::constants::constants_of;
 use crate::power::x_of;
 use crate::rounding::round_up;
 
-fn within(low: u32, high: u32, n: u32) -> bool
+fn between(low: u32, high: u32, n: u32) -> bool
     ensures { λ r. ⌜ r ≡ between low high n ⌝ }
 {
     if low <= n { n <= high } else { false }
@@ -30,8 +30,8 @@ fn inverse_part(a: Power, k: u64, m: u32) -> u64
 pub fn operate_time(operation: u32, ratio: u32) -> u64
     ensures { λ r. ⌜ r ≡ operateTime operation ratio ⌝ }
 {
-    if within(2, 12, operation) {
-        if within(101, 2000, ratio) {
+    if between(2, 12, operation) {
+        if between(101, 2000, ratio) {
             let row = constants_of(operation);
             let a = row.a;
             return row.c + inverse_part(a, row.k, ratio);
@@ -53,7 +53,7 @@ fn reset_part(kr: u64, m: u32) -> u64
 pub fn reset_time(operation: u32, ratio: u32) -> u64
     ensures { λ r. ⌜ r ≡ resetTime operation ratio ⌝ }
 {
-    if within(6, 12, operation) {
+    if between(6, 12, operation) {
         if ratio <= 99 {
             let row = constants_of(operation);
             return reset_part(row.kr, ratio);

@@ -1,0 +1,48 @@
+// The class examples on one phase.
+use crate::line::say;
+use crate::line::verdict;
+use phase::PhaseState;
+use phase::Settings;
+use phase::jump::jump;
+use phase::tick::tick;
+
+// IEC VeryInv with the start current s and the reset time 60.
+fn settings(s: u32) -> Settings {
+    Settings {
+        operation: 3,
+        start_current: s,
+        time_multiplier: 100,
+        minimum_delay: 40,
+        definite_delay: 40,
+        reset_time: 60,
+        start_only: 0,
+    }
+}
+
+fn starts(s: u32, g: u32) -> bool {
+    tick(settings(s), PhaseState::clear(), g).start
+}
+
+// The sum after so many idle ticks, from a sum of 1000.
+fn sum_after(idle: u32) -> u64 {
+    let dipping = PhaseState {
+        sum: 1000,
+        run: 0,
+        drop: 0,
+    };
+    jump(settings(200), dipping, 0, idle).state.sum
+}
+
+pub fn phase_examples() {
+    say(b"\nOne phase, IEC VeryInv\n");
+    say(b"start current 200, sample 20000: not started");
+    verdict(!starts(200, 20000));
+    say(b"start current 200, sample 20001: started");
+    verdict(starts(200, 20001));
+    say(b"start current 3000, sample 4294967295: started");
+    verdict(starts(3000, 4294967295));
+    say(b"reset time 60, 59 idle ticks keep the sum");
+    verdict(sum_after(59) == 1000);
+    say(b"reset time 60, 60 idle ticks clear it");
+    verdict(sum_after(60) == 0);
+}

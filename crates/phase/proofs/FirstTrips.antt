@@ -1,0 +1,148 @@
+-- The first of n equal ticks with the phase trip on, in closed form.
+-- Assumes nothing.
+use Prim.Native.Nat.{ℕ, zero, suc, _+_, _-_, _*_, _≤_, _<_, min, max}
+use native.Mathlib.Nat.{suc-mul, div-lt-iff-lt-mul, div-zero, mul-zero, lt-of-not-le, not-le-of-lt, not-suc-le-zero}
+use native.Mathlib.Omega.{arith}
+use mathlib.Core.Bool.{Bool, true, false, cond, _&&_}
+use mathlib.Core.Path.{_≡_, refl, ap, sym, _∙_}
+use borrow.Author.Tests.{leb-true, leb-false, le-leb, lt-leb, ltb-true, ltb-false}
+use lib.Dec.{leb, ltb, eqb, eqb·suc-zero}
+use Rattle.phase.specs.declared.operation.Kind.{Kind}
+use Rattle.phase.specs.declared.operation.Kind.the-variants.{Off, Definite, Iec, Ansi}
+use Rattle.phase.specs.declared.settings.Settings.{Settings}
+use Rattle.phase.specs.declared.state.PhaseState.{PhaseState}
+use Rattle.phase.specs.Closed.{afterBy, oneOf, waitFor, turns, firstFull, firstDue, firstTripBy}
+use Rattle.phase.specs.Jump.{stateAfter, firstOf, orLast, tripAt, firstTrip}
+use Rattle.phase.specs.Operation.{kindOf}
+use Rattle.phase.specs.Settings.{InRange, tripLevel}
+use Rattle.phase.specs.State.{runLimit}
+use Rattle.phase.specs.Tick.{gainAt, started, nextState, phaseTrip, due}
+use Rattle.phase.proofs.Walk.{closedAfter, started-stays, ticks-closed}
+
+-- ---- tests
+
+-- a test is another test where each order gives the other
+leb-iff : (a b c d : ℕ) → (a ≤ b → c ≤ d) → (c ≤ d → a ≤ b) → leb a b ≡ leb c d
+leb-iff a b c d f g = go (leb a b) refl
+  where
+    go : (t : Bool) → leb a b ≡ t → t ≡ leb c d
+    go true q = sym (le-leb c d (f (leb-true a b q)))
+    go false q = sym (lt-leb c d (lt-of-not-le (λ e. not-le-of-lt (leb-false a b q) (g e))))
+
+-- two tests joined are one test
+both-iff : (a b c d m k : ℕ) → (a ≤ b → c ≤ d → m ≤ k) → (m ≤ k → a ≤ b) → (m ≤ k → c ≤ d) → leb a b && leb c d ≡ leb m k
+both-iff a b c d m k f g h = go (leb a b) refl
+  where
+    go : (t : Bool) → leb a b ≡ t → t && leb c d ≡ leb m k
+    go true q = leb-iff c d m k (λ e. f (leb-true a b q) e) h
+    go false q = sym (lt-leb m k (lt-of-not-le (λ e. not-le-of-lt (leb-false a b q) (g e))))
+
+-- ---- the first of 1, 2 .. n
+
+-- only the numbers above 0 matter
+first-same : (t u : ℕ → Bool) (n : ℕ) → ((k : ℕ) → t (suc k) ≡ u (suc k)) → firstOf t n ≡ firstOf u n
+unfolding firstOf
+first-same t u zero e = refl
+first-same t u (suc n) e = rw (first-same t u n e, e n)
+
+first-none : (t : ℕ → Bool) (n : ℕ) → ((k : ℕ) → t (suc k) ≡ false) → firstOf t n ≡ 0
+unfolding firstOf
+first-none t zero e = refl
+first-none t (suc n) e = rw (first-none t n e, e n)
+
+last-or-none : (b : Bool) (x y : ℕ) → (b ≡ true → x ≡ y) → cond b x 0 ≡ cond b y 0
+last-or-none true x y f = f refl
+last-or-none false x y f = refl
+
+-- a test that holds from the number m on
+first-at : (t : ℕ → Bool) (m n : ℕ) → 0 < m → ((k : ℕ) → t (suc k) ≡ leb m (suc k)) → firstOf t n ≡ oneOf n m
+unfolding firstOf
+first-at t zero n h e = absurd (not-suc-le-zero h)
+first-at t (suc m) zero h e = rw (lt-leb (suc m) 0 (omega arith))
+first-at t (suc m) (suc n) h e = rw (first-at t (suc m) n h e, e n) (go (leb (suc m) n) refl)
+  where
+    go : (b : Bool) → leb (suc m) n ≡ b → orLast (cond b (suc m) 0) (suc n) (leb (suc m) (suc n)) ≡ oneOf (suc n) (suc m)
+    go true q = rw (le-leb (suc m) (suc n) (omega (arith, leb-true (suc m) n q)))
+    go false q = last-or-none (leb (suc m) (suc n)) (suc n) (suc m) (λ r. omega (arith, leb-false (suc m) n q, leb-true (suc m) (suc n) r))
+
+-- ---- from which tick on a sum is full
+
+turns-enough : (level sum gain k : ℕ) → 0 < gain → turns level sum gain ≤ k → level ≤ sum + k * gain
+turns-enough level sum gain k pos h =
+    let a : level - sum + (gain - 1) < suc k * gain = div-lt-iff-lt-mul pos .0 (omega arith) in
+    omega (arith, rw suc-mul at a)
+
+turns-least : (level sum gain k : ℕ) → 0 < gain → level ≤ sum + k * gain → turns level sum gain ≤ k
+turns-least level sum gain k pos h =
+    let a : level - sum + (gain - 1) < suc k * gain = rw suc-mul (omega arith) in
+    let b : turns level sum gain < suc k = div-lt-iff-lt-mul pos .1 a in
+    omega arith
+
+-- a quotient by 0 is 0
+pub no-turns : (level sum gain : ℕ) → gain ≡ 0 → turns level sum gain ≡ 0
+no-turns level sum gain e = rw e (div-zero (level - sum + (0 - 1)))
+
+-- the two tests of a curve's trip as one, at a gain above 0
+full-test : (level sum gain run delay k : ℕ) → delay ≤ runLimit → 0 < gain → leb level (min (sum + suc k * gain) level) && leb delay (min (run + suc k) runLimit) ≡ leb (max (waitFor delay run) (turns level sum gain)) (suc k)
+full-test level sum gain run delay k small pos =
+    both-iff level (min (sum + suc k * gain) level) delay (min (run + suc k) runLimit) (max (waitFor delay run) (turns level sum gain)) (suc k)
+    (λ a b. omega (arith, turns-least level sum gain (suc k) pos (omega arith)))
+    (λ a. omega (arith, turns-enough level sum gain (suc k) pos (omega arith)))
+    (λ a. omega arith)
+
+-- and at a gain of 0: a sum below the level stays there, a full one waits for the delay alone
+flat-never : (level sum run delay k : ℕ) → sum < level → leb level (min (sum + suc k * 0) level) && leb delay (min (run + suc k) runLimit) ≡ false
+flat-never level sum run delay k h = rw (lt-leb level (min (sum + suc k * 0) level) (omega (arith, mul-zero (suc k))))
+
+flat-test : (level sum run delay k : ℕ) → delay ≤ runLimit → level ≤ sum → leb level (min (sum + suc k * 0) level) && leb delay (min (run + suc k) runLimit) ≡ leb (max (waitFor delay run) (turns level sum 0)) (suc k)
+flat-test level sum run delay k small full =
+    both-iff level (min (sum + suc k * 0) level) delay (min (run + suc k) runLimit) (max (waitFor delay run) (turns level sum 0)) (suc k)
+    (λ a b. omega (arith, div-zero (level - sum + (0 - 1))))
+    (λ a. omega (arith, mul-zero (suc k)))
+    (λ a. omega arith)
+
+-- ---- the first trip
+
+delay-first : (delay run n : ℕ) → delay ≤ runLimit → firstOf (λ (k : ℕ). leb delay (min (run + k) runLimit)) n ≡ oneOf n (waitFor delay run)
+delay-first delay run n small =
+    first-at (λ (k : ℕ). leb delay (min (run + k) runLimit)) (waitFor delay run) n (omega arith)
+    (λ k. leb-iff delay (min (run + suc k) runLimit) (waitFor delay run) (suc k) (λ a. omega arith) (λ a. omega arith))
+
+full-first : (level sum gain run delay n : ℕ) → delay ≤ runLimit → firstOf (λ (k : ℕ). leb level (min (sum + k * gain) level) && leb delay (min (run + k) runLimit)) n ≡ firstFull n (waitFor delay run) level sum gain
+full-first level sum zero run delay n small = go (ltb sum level) refl
+  where
+    go : (b : Bool) → ltb sum level ≡ b → firstOf (λ (k : ℕ). leb level (min (sum + k * 0) level) && leb delay (min (run + k) runLimit)) n ≡ cond b 0 (oneOf n (max (waitFor delay run) (turns level sum 0)))
+    go true q = first-none _ n (λ k. flat-never level sum run delay k (ltb-true sum level q))
+    go false q = first-at _ _ n (omega arith) (λ k. flat-test level sum run delay k small (ltb-false sum level q))
+full-first level sum (suc gain) run delay n small =
+    rw (eqb·suc-zero gain)
+    (first-at _ _ n (omega arith) (λ k. full-test level sum (suc gain) run delay k small (omega arith)))
+
+due-first : (kind : Kind) (settings : Settings) (g n : ℕ) (state : PhaseState) → InRange settings → firstOf (λ (k : ℕ). due kind settings (afterBy kind true settings g k state)) n ≡ firstDue kind settings g n state
+due-first Off settings g n state range = first-none _ n (λ k. refl)
+due-first Definite settings g n state range =
+    delay-first (settings .«definite_delay») (state .run) n (range .definite-high)
+due-first Iec settings g n state range =
+    full-first (tripLevel settings) (state .sum) (gainAt settings g) (state .run) (settings .«minimum_delay») n (range .minimum-high)
+due-first Ansi settings g n state range =
+    full-first (tripLevel settings) (state .sum) (gainAt settings g) (state .run) (settings .«minimum_delay») n (range .minimum-high)
+
+trip-first : (b allowed : Bool) (kind : Kind) (settings : Settings) (g n : ℕ) (state : PhaseState) → InRange settings → firstOf (λ (k : ℕ). b && allowed && due kind settings (afterBy kind b settings g k state)) n ≡ cond (b && allowed) (firstDue kind settings g n state) 0
+trip-first true true kind settings g n state range = due-first kind settings g n state range
+trip-first true false kind settings g n state range = first-none _ n (λ k. refl)
+trip-first false allowed kind settings g n state range = first-none _ n (λ k. refl)
+
+-- the trip at tick k by the closed form
+trip-closed : (settings : Settings) (g : ℕ) (state : PhaseState) (k : ℕ) → tripAt settings g state (suc k) ≡ started settings state g && eqb (settings .«start_only») 0 && due (kindOf (settings .operation)) settings (closedAfter settings g (suc k) state)
+unfolding phaseTrip stateAfter
+trip-closed settings g state k =
+    let only = eqb (settings .«start_only») 0 in
+    let isDue = due (kindOf (settings .operation)) settings in
+    ap (λ (b : Bool). b && only && isDue (nextState settings (stateAfter settings g k state) g)) (started-stays settings g k state)
+    ∙ ap (λ (after : PhaseState). started settings state g && only && isDue after) (ticks-closed settings g (suc k) state (omega arith))
+
+pub first-trip-closed : (settings : Settings) (g n : ℕ) (state : PhaseState) → InRange settings → firstTrip settings g n state ≡ firstTripBy (kindOf (settings .operation)) (started settings state g) settings g n state
+unfolding firstTrip
+first-trip-closed settings g n state range =
+    first-same _ _ n (trip-closed settings g state)
+    ∙ trip-first (started settings state g) (eqb (settings .«start_only») 0) (kindOf (settings .operation)) settings g n state range

@@ -1,0 +1,85 @@
+-- A valid state stays valid over a tick, and so over any number of them.
+-- Assumes nothing.
+use Prim.Native.Nat.{ℕ, zero, suc, _≤_}
+use native.Mathlib.Omega.{arith}
+use mathlib.Core.Bool.{Bool, true, false, cond, _&&_, or-true}
+use mathlib.Core.Logic.{_⊎_, inl, inr}
+use mathlib.Core.Path.{_≡_, refl}
+use borrow.Author.Tests.{leb-true, le-leb, eq-eqb}
+use lib.Dec.{leb, eqb}
+use Rattle.phase.specs.declared.operation.Kind.{Kind}
+use Rattle.phase.specs.declared.operation.Kind.the-variants.{Off, Definite, Iec, Ansi}
+use Rattle.phase.specs.declared.settings.Settings.{Settings}
+use Rattle.phase.specs.declared.state.PhaseState.{PhaseState}
+use Rattle.phase.specs.Jump.{stateAfter}
+use Rattle.phase.specs.Operation.{kindOf}
+use Rattle.phase.specs.Settings.{tripLevel}
+use Rattle.phase.specs.State.{runLimit, clearState, valid, validCounts, validFor}
+use Rattle.phase.specs.Tick.{countUp, started, nextBy, nextState, tickRefusal}
+use Rattle.phase.proofs.Accepted.{both, tick-passed}
+
+abbrev validBy : Settings → Kind → PhaseState → Bool
+validBy settings kind state = leb (state .sum) (tripLevel settings) && validCounts state && validFor kind state
+
+by-parts : (settings : Settings) (kind : Kind) (state : PhaseState) → state .sum ≤ tripLevel settings → state .run ≤ runLimit → state .drop ≤ runLimit → (state .run ≡ 0) ⊎ (state .drop ≡ 0) → validFor kind state ≡ true → validBy settings kind state ≡ true
+by-parts settings kind state s r d (inl e) f =
+    rw (le-leb (state .sum) (tripLevel settings) s, le-leb (state .run) runLimit r, le-leb (state .drop) runLimit d, eq-eqb (state .run) 0 e) f
+by-parts settings kind state s r d (inr e) f =
+    rw (le-leb (state .sum) (tripLevel settings) s, le-leb (state .run) runLimit r, le-leb (state .drop) runLimit d, eq-eqb (state .drop) 0 e, or-true (eqb (state .run) 0)) f
+
+cleared : (b : Bool) (sum level : ℕ) → sum ≤ level → cond b 0 sum ≤ level
+cleared true sum level h = omega arith
+cleared false sum level h = h
+
+-- the sum after a tick, by the group of operations
+sum-kept : (kind : Kind) (b : Bool) (settings : Settings) (g : ℕ) (state : PhaseState) → state .sum ≤ tripLevel settings → nextBy kind b settings g state .sum ≤ tripLevel settings
+sum-kept Off b settings g state h = omega arith
+sum-kept Definite true settings g state h = omega arith
+sum-kept Definite false settings g state h = omega arith
+sum-kept Iec true settings g state h = omega arith
+sum-kept Iec false settings g state h = cleared (leb (settings .«reset_time») (countUp (state .drop))) (state .sum) (tripLevel settings) h
+sum-kept Ansi true settings g state h = omega arith
+sum-kept Ansi false settings g state h = omega arith
+
+keeps : (kind : Kind) (b : Bool) (settings : Settings) (g : ℕ) (state : PhaseState) → nextBy kind b settings g state .sum ≤ tripLevel settings → validBy settings kind (nextBy kind b settings g state) ≡ true
+keeps Off b settings g state h = by-parts settings Off clearState h (omega arith) (omega arith) (inl refl) refl
+keeps Definite true settings g state h = by-parts settings Definite (nextBy Definite true settings g state) h (omega arith) (omega arith) (inr refl) refl
+keeps Definite false settings g state h = by-parts settings Definite (nextBy Definite false settings g state) h (omega arith) (omega arith) (inl refl) refl
+keeps Iec true settings g state h = by-parts settings Iec (nextBy Iec true settings g state) h (omega arith) (omega arith) (inr refl) refl
+keeps Iec false settings g state h = by-parts settings Iec (nextBy Iec false settings g state) h (omega arith) (omega arith) (inl refl) refl
+keeps Ansi true settings g state h = by-parts settings Ansi (nextBy Ansi true settings g state) h (omega arith) (omega arith) (inr refl) refl
+keeps Ansi false settings g state h = by-parts settings Ansi (nextBy Ansi false settings g state) h (omega arith) (omega arith) (inl refl) refl
+
+zero-for : (kind : Kind) → validFor kind clearState ≡ true
+zero-for Off = refl
+zero-for Definite = refl
+zero-for Iec = refl
+zero-for Ansi = refl
+
+pub clear-is-valid : (settings : Settings) → valid settings clearState ≡ true
+unfolding valid
+clear-is-valid settings =
+    let kind = kindOf (settings .operation) in
+    by-parts settings kind clearState (omega arith) (omega arith) (omega arith) (inl refl) (zero-for kind)
+
+pub tick-keeps-valid : (settings : Settings) (state : PhaseState) (g : ℕ) → valid settings state ≡ true → valid settings (nextState settings state g) ≡ true
+unfolding valid nextState
+tick-keeps-valid settings state g e =
+    let all = both (leb (state .sum) (tripLevel settings) && validCounts state) (validFor (kindOf (settings .operation)) state) e in
+    let front = both (leb (state .sum) (tripLevel settings)) (validCounts state) (all .0) in
+    let kind = kindOf (settings .operation) in
+    let b = started settings state g in
+    keeps kind b settings g state (sum-kept kind b settings g state (leb-true (state .sum) (tripLevel settings) (front .0)))
+
+pub ticks-keep-valid : (settings : Settings) (g n : ℕ) (state : PhaseState) → valid settings state ≡ true → valid settings (stateAfter settings g n state) ≡ true
+unfolding stateAfter
+ticks-keep-valid settings g zero state e = e
+ticks-keep-valid settings g (suc n) state e =
+    tick-keeps-valid settings (stateAfter settings g n state) g (ticks-keep-valid settings g n state e)
+
+-- so the tick after an accepted tick is accepted
+pub ticks-keep-accepted : (settings : Settings) (g n : ℕ) (state : PhaseState) → tickRefusal settings state ≡ 0 → tickRefusal settings (stateAfter settings g n state) ≡ 0
+unfolding tickRefusal
+ticks-keep-accepted settings g n state e =
+    let v = tick-passed settings state e .1 in
+    rw (ticks-keep-valid settings g n state v) (rw v at e)

@@ -1,0 +1,6 @@
+pub mod PaceLaws
+pub mod Walk
+pub mod FirstTrips
+pub mod JumpMeans
+pub mod Accepted
+pub mod KeepsValid

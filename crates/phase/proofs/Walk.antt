@@ -1,0 +1,92 @@
+-- n equal ticks in closed form are n ticks one after the other.
+-- Assumes nothing.
+use Prim.Native.Nat.{ℕ, zero, suc, _+_, _-_, _*_, _≤_, _<_, min}
+use native.Mathlib.Nat.{not-suc-le-zero}
+use native.Mathlib.Omega.{arith}
+use mathlib.Core.Bool.{Bool, true, false, cond}
+use mathlib.Core.Path.{_≡_, refl, ap, _∙_}
+use borrow.Author.Tests.{leb-true, le-leb}
+use lib.Dec.{leb}
+use Rattle.phase.specs.declared.operation.Kind.{Kind}
+use Rattle.phase.specs.declared.operation.Kind.the-variants.{Off, Definite, Iec, Ansi}
+use Rattle.phase.specs.declared.settings.Settings.{Settings}
+use Rattle.phase.specs.declared.state.PhaseState.{PhaseState}
+use Rattle.phase.specs.Closed.{afterBy}
+use Rattle.phase.specs.Jump.{stateAfter}
+use Rattle.phase.specs.Operation.{kindOf}
+use Rattle.phase.specs.State.{runLimit}
+use Rattle.phase.specs.Tick.{started, nextBy, nextState}
+
+-- equal parts, equal states
+pub same-state : {s s' r r' d d' : ℕ} → s ≡ s' → r ≡ r' → d ≡ d' → _≡_ {A = PhaseState} (record { sum = s; run = r; drop = d }) (record { sum = s'; run = r'; drop = d' })
+same-state a b c = cc
+
+-- ---- one tick more
+
+fill-again : (sum level gain n : ℕ) → min (min (sum + n * gain) level + gain) level ≡ min (sum + suc n * gain) level
+fill-again sum level gain n = omega arith
+
+drain-again : (sum loss n : ℕ) → sum - n * loss - loss ≡ sum - suc n * loss
+drain-again sum loss n = omega arith
+
+count-again : (count n : ℕ) → min (min (count + n) runLimit + 1) runLimit ≡ min (count + suc n) runLimit
+count-again count n = omega arith
+
+-- a sum that was cleared stays so, since the drop never falls
+clear-again : (reset d e sum : ℕ) → d ≤ e → cond (leb reset e) 0 (cond (leb reset d) 0 sum) ≡ cond (leb reset e) 0 sum
+clear-again reset d e sum h = go (leb reset d) refl
+  where
+    go : (b : Bool) → leb reset d ≡ b → cond (leb reset e) 0 (cond b 0 sum) ≡ cond (leb reset e) 0 sum
+    go false q = refl
+    go true q = simp (le-leb reset e (omega (arith, leb-true reset d q)))
+
+dropped-again : (reset drop n sum : ℕ) → cond (leb reset (min (min (drop + n) runLimit + 1) runLimit)) 0 (cond (leb reset (min (drop + n) runLimit)) 0 sum) ≡ cond (leb reset (min (drop + suc n) runLimit)) 0 sum
+dropped-again reset drop n sum =
+    rw (count-again drop n) (clear-again reset (min (drop + n) runLimit) (min (drop + suc n) runLimit) sum (omega arith))
+
+once : (kind : Kind) (b : Bool) (settings : Settings) (g : ℕ) (state : PhaseState) → nextBy kind b settings g state ≡ afterBy kind b settings g 1 state
+once Off b settings g state = refl
+once Definite true settings g state = refl
+once Definite false settings g state = refl
+once Iec true settings g state = same-state (omega arith) refl refl
+once Iec false settings g state = refl
+once Ansi true settings g state = same-state (omega arith) refl refl
+once Ansi false settings g state = same-state (omega arith) refl refl
+
+again : (kind : Kind) (b : Bool) (settings : Settings) (g n : ℕ) (state : PhaseState) → nextBy kind b settings g (afterBy kind b settings g n state) ≡ afterBy kind b settings g (suc n) state
+again Off b settings g n state = refl
+again Definite true settings g n state = same-state refl (count-again _ _) refl
+again Definite false settings g n state = same-state refl refl (count-again _ _)
+again Iec true settings g n state = same-state (fill-again _ _ _ _) (count-again _ _) refl
+again Iec false settings g n state = same-state (dropped-again (settings .«reset_time») (state .drop) n (state .sum)) refl (count-again _ _)
+again Ansi true settings g n state = same-state (fill-again _ _ _ _) (count-again _ _) refl
+again Ansi false settings g n state = same-state (drain-again _ _ _) refl (count-again _ _)
+
+-- ---- the walk
+
+-- equal samples stay started, or stay idle: whether a phase is started does not change from tick to tick
+pub started-stays : (settings : Settings) (g n : ℕ) (state : PhaseState) → started settings (stateAfter settings g n state) g ≡ started settings state g
+unfolding started
+started-stays settings g n state = refl
+
+abbrev pub closedAfter : Settings → ℕ → ℕ → PhaseState → PhaseState
+closedAfter settings g n state = afterBy (kindOf (settings .operation)) (started settings state g) settings g n state
+
+from-one : (settings : Settings) (g n : ℕ) (state : PhaseState) → stateAfter settings g (suc n) state ≡ closedAfter settings g (suc n) state
+unfolding stateAfter nextState
+from-one settings g zero state = once (kindOf (settings .operation)) (started settings state g) settings g state
+from-one settings g (suc n) state =
+    let kind = kindOf (settings .operation) in
+    let b = started settings state g in
+    ap (λ (x : Bool). nextBy kind x settings g (stateAfter settings g (suc n) state)) (started-stays settings g (suc n) state)
+    ∙ ap (nextBy kind b settings g) (from-one settings g n state)
+    ∙ again kind b settings g (suc n) state
+
+-- any number of ticks but none
+pub ticks-closed : (settings : Settings) (g n : ℕ) (state : PhaseState) → 0 < n → stateAfter settings g n state ≡ closedAfter settings g n state
+ticks-closed settings g zero state h = absurd (not-suc-le-zero h)
+ticks-closed settings g (suc n) state h = from-one settings g n state
+
+pub next-closed : (settings : Settings) (g : ℕ) (state : PhaseState) → nextState settings state g ≡ closedAfter settings g 1 state
+unfolding nextState
+next-closed settings g state = once (kindOf (settings .operation)) (started settings state g) settings g state

@@ -1,0 +1,39 @@
+-- `phase::advance::moved_after` meets its contract.
+-- Assumes nothing.
+use mathlib.Core.Path.{sym, _∙_}
+use borrow.Author.Needs.{needs}
+use Rattle.phase.proofs.advance.moved_after.Statement.{statement}
+use Rattle.phase.proofs.advance.moved_after.Tie as tie
+
+is-started-requires : tie.Need-is-started-requires
+is-started-requires c κs = search needs
+
+sum-up-after-requires : tie.Need-sum-up-after-requires
+sum-up-after-requires c κs = search needs
+
+count-after-requires : tie.Need-count-after-requires
+count-after-requires c κs = search needs
+
+count-after-requires-2 : tie.Need-count-after-requires-2
+count-after-requires-2 c κs = search needs
+
+sum-down-after-requires : tie.Need-sum-down-after-requires
+sum-down-after-requires c κs = search needs
+
+returns : tie.Need-returns
+returns c = rw (sym (c .before .before .before .is-started .ensures) ∙ c .before .before .if1 .taken) (cc)
+
+returns-2 : tie.Need-returns-2
+returns-2 c = rw (sym (c .before .before .before .is-started .ensures) ∙ c .before .before .if1 .left) (cc)
+
+pub moved-after-spec : {M : Type 1} → statement M
+moved-after-spec =
+    tie.close
+    (tie.spec
+    is-started-requires
+    sum-up-after-requires
+    count-after-requires
+    count-after-requires-2
+    sum-down-after-requires
+    returns
+    returns-2)

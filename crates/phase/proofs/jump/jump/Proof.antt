@@ -1,0 +1,54 @@
+-- `phase::jump::jump` meets its contract: asked first, then the closed form.
+-- Assumes nothing.
+use mathlib.Core.Path.{_≡_, sym, _∙_, ap}
+use borrow.Author.Needs.{needs}
+use Rattle.phase.proofs.Accepted.{ready, jump-passed, jump-accepted, jump-refused}
+use Rattle.phase.specs.Jump.{jumpOf, jumpRefusal}
+use Rattle.phase.specs.Pace.{paceOf}
+use Rattle.phase.specs.declared.pace.Pace.{Pace}
+use Rattle.phase.proofs.jump.jump.Statement.{statement}
+use Rattle.phase.proofs.jump.jump.Tie as tie
+
+pick-requires : tie.Need-pick-requires
+pick-requires c κs = search needs
+
+refusal-then-requires : tie.Need-refusal-then-requires
+refusal-then-requires c κs = search needs
+
+returns : tie.Need-returns
+unfolding jumpRefusal
+returns c =
+    let a = c .before .before .before .args in
+    let e : c .before .refusal-then .result ≡ jumpRefusal (a .settings) (a .state) (a .count) = cc in
+    sym (jump-refused (a .settings) (a .state) (a .g) (a .count) _ e (c .if1 .taken))
+
+pace-of-requires : tie.Need-pace-of-requires
+pace-of-requires c κs = search needs
+
+jump-ready-requires : tie.Need-jump-ready-requires
+unfolding jumpRefusal
+jump-ready-requires c κs =
+    let a = c .before .before .before .before .args in
+    let e : c .before .before .refusal-then .result ≡ jumpRefusal (a .settings) (a .state) (a .count) = cc in
+    let p = jump-passed (a .settings) (a .state) (a .count) (sym e ∙ c .before .if1 .left) in
+    (rw (c .pace-of .ensures) (ready (a .settings) (a .state) (a .g) (p .0) (p .1)), p .2)
+
+returns-2 : tie.Need-returns-2
+unfolding paceOf jumpRefusal
+returns-2 c =
+    let a = c .before .before .before .before .before .args in
+    let e : c .before .before .before .refusal-then .result ≡ jumpRefusal (a .settings) (a .state) (a .count) = cc in
+    c .jump-ready .ensures
+    ∙ ap (λ (pace : Pace). jumpOf (a .settings) (a .state) (pace .sample) (a .count)) (c .before .pace-of .ensures)
+    ∙ sym (jump-accepted (a .settings) (a .state) (a .g) (a .count) (sym e ∙ c .before .before .if1 .left))
+
+pub jump-spec : {M : Type 1} → statement M
+jump-spec =
+    tie.close
+    (tie.spec
+    pick-requires
+    refusal-then-requires
+    returns
+    pace-of-requires
+    jump-ready-requires
+    returns-2)

@@ -1,0 +1,47 @@
+-- `phase::tick::tick_ready` meets its contract: a tick is the closed form at 1.
+-- Assumes nothing.
+use borrow.Author.Needs.{needs}
+use Rattle.phase.proofs.Walk.{next-closed}
+use Rattle.phase.specs.Tick.{phaseStart, phaseTrip}
+use Rattle.phase.proofs.tick.tick_ready.Statement.{statement}
+use Rattle.phase.proofs.tick.tick_ready.Tie as tie
+
+kind-of-requires : tie.Need-kind-of-requires
+kind-of-requires c κs = search needs
+
+is-started-requires : tie.Need-is-started-requires
+is-started-requires c κs = search needs
+
+advance-requires : tie.Need-advance-requires
+advance-requires c κs = search needs
+
+start-by-requires : tie.Need-start-by-requires
+start-by-requires c κs = search needs
+
+both-requires : tie.Need-both-requires
+both-requires c κs = search needs
+
+is-due-requires : tie.Need-is-due-requires
+is-due-requires c κs = search needs
+
+both-requires-2 : tie.Need-both-requires-2
+both-requires-2 c κs = search needs
+
+returns : tie.Need-returns
+unfolding phaseStart phaseTrip
+returns c =
+    let a = c .before .before .before .before .before .before .before .before .args in
+    cc (next-closed (a .settings) (a .pace .sample) (a .state))
+
+pub tick-ready-spec : {M : Type 1} → statement M
+tick-ready-spec =
+    tie.close
+    (tie.spec
+    kind-of-requires
+    is-started-requires
+    advance-requires
+    start-by-requires
+    both-requires
+    is-due-requires
+    both-requires-2
+    returns)

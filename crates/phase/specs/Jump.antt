@@ -1,0 +1,64 @@
+-- The jump over many equal ticks: the ticks walked one by one.
+use Prim.Native.Nat.{ℕ, zero, suc}
+use mathlib.Core.Bool.{Bool, false, cond}
+use mathlib.Core.List.{[], _∷_, _++_}
+use lib.Dec.{leb, eqb}
+use Rattle.phase.specs.declared.jump.Jumped.{Jumped}
+use Rattle.phase.specs.declared.jump.TripTick.{TripTick}
+use Rattle.phase.specs.declared.jump.TripTick.the-variants.{At, None}
+use Rattle.phase.specs.declared.settings.Settings.{Settings}
+use Rattle.phase.specs.declared.state.PhaseState.{PhaseState}
+use Rattle.phase.specs.Refusals.{check, lowest, jumpTooLong}
+use Rattle.phase.specs.Tick.{nextState, phaseTrip, tickChecks}
+
+-- the state after n ticks with the sample g
+unfoldable pub stateAfter : Settings → ℕ → ℕ → PhaseState → PhaseState
+stateAfter settings g zero state = state
+stateAfter settings g (suc n) state = nextState settings (stateAfter settings g n state) g
+
+-- the one found before, else the last where the test holds there
+abbrev pub orLast : ℕ → ℕ → Bool → ℕ
+orLast zero last holds = cond holds last 0
+orLast (suc found) last holds = suc found
+
+-- the first of 1, 2 .. n at which a test holds, or 0
+unfoldable pub firstOf : (ℕ → Bool) → ℕ → ℕ
+firstOf test zero = 0
+firstOf test (suc n) = orLast (firstOf test n) (suc n) (test (suc n))
+
+-- whether the phase trip is on at tick k; the ticks count from 1
+abbrev pub tripAt : Settings → ℕ → PhaseState → ℕ → Bool
+tripAt settings g state zero = false
+tripAt settings g state (suc k) = phaseTrip settings (stateAfter settings g k state) g
+
+-- the first of n ticks with the phase trip on, or 0
+unfoldable pub firstTrip : Settings → ℕ → ℕ → PhaseState → ℕ
+firstTrip settings g n state = firstOf (tripAt settings g state) n
+
+-- the answer's two cases: "trips at" a tick, or "has none"
+abbrev pub tripTick : ℕ → TripTick
+tripTick zero = None
+tripTick (suc k) = At (suc k)
+
+-- "a jump is over 3,600,000 ticks"
+abbrev pub jumpLimit : ℕ
+jumpLimit = 3600000
+
+-- a jump is refused by 1 to 9
+unfoldable pub jumpRefusal : Settings → PhaseState → ℕ → ℕ
+jumpRefusal settings state count =
+    lowest (tickChecks settings state ++ (check (leb count jumpLimit) jumpTooLong ∷ []))
+
+-- an accepted jump
+abbrev pub jumpOf : Settings → PhaseState → ℕ → ℕ → Jumped
+jumpOf settings state g count =
+    record { refusal = 0; state = stateAfter settings g count state; trip = tripTick (firstTrip settings g count state) }
+
+-- "A refusal returns its number, the state unchanged, all outputs off (a jump: no trip tick)"
+abbrev pub refusedJump : ℕ → PhaseState → Jumped
+refusedJump refusal state = record { refusal = refusal; state = state; trip = None }
+
+-- what a jump answers
+unfoldable pub jumpAnswer : Settings → PhaseState → ℕ → ℕ → Jumped
+jumpAnswer settings state g count =
+    cond (eqb (jumpRefusal settings state count) 0) (jumpOf settings state g count) (refusedJump (jumpRefusal settings state count) state)

@@ -1,0 +1,8 @@
+pub mod Refusals
+pub mod Operation
+pub mod Settings
+pub mod State
+pub mod Tick
+pub mod Jump
+pub mod Pace
+pub mod Closed

@@ -1,0 +1,21 @@
+-- What one sample does to a sum, worked out once: a device of the code.
+use Prim.Native.Nat.{ℕ, _≤_}
+use mathlib.Core.Path.{_≡_}
+use Rattle.phase.specs.declared.pace.Pace.{Pace}
+use Rattle.phase.specs.declared.settings.Settings.{Settings}
+use Rattle.phase.specs.declared.state.PhaseState.{PhaseState}
+use Rattle.phase.specs.Settings.{InRange, tripLevel}
+use Rattle.phase.specs.State.{runLimit}
+use Rattle.phase.specs.Tick.{gainAt, lossAt}
+
+unfoldable pub paceOf : Settings → ℕ → Pace
+paceOf settings g = record { sample = g; gain = gainAt settings g; loss = lossAt settings g }
+
+-- what a tick of accepted settings, of their pace and of a valid state may go by
+pub record Ready (settings : Settings) (pace : Pace) (state : PhaseState) : Type 0 where
+  pub range : InRange settings
+  pub gain : pace .gain ≡ gainAt settings (pace .sample)
+  pub loss : pace .loss ≡ lossAt settings (pace .sample)
+  pub sum : state .sum ≤ tripLevel settings
+  pub run : state .run ≤ runLimit
+  pub drop : state .drop ≤ runLimit

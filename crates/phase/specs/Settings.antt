@@ -1,0 +1,46 @@
+-- The settings (01, 'Settings').
+use Prim.Native.Nat.{ℕ, _*_, _^_, _≤_}
+use mathlib.Core.Bool.{Bool, _&&_}
+use mathlib.Core.List.{List, [], _∷_}
+use lib.Dec.{leb}
+use Rattle.phase.specs.declared.settings.Settings.{Settings}
+use Rattle.phase.specs.Refusals.{Check, check, lowest}
+
+abbrev pub inRange : ℕ → ℕ → ℕ → Bool
+inRange low high n = leb low n && leb n high
+
+-- the table, row by row; 1 to 7: "the setting in that row of the table above is outside its range".
+-- "All are checked, whatever the operation."
+abbrev pub settingsChecks : Settings → List Check
+settingsChecks settings =
+    check (inRange 0 12 (settings .operation)) 1
+    ∷ check (inRange 10 3000 (settings .«start_current»)) 2
+    ∷ check (inRange 5 1500 (settings .«time_multiplier»)) 3
+    ∷ check (inRange 40 60000 (settings .«minimum_delay»)) 4
+    ∷ check (inRange 40 60000 (settings .«definite_delay»)) 5
+    ∷ check (inRange 60 60000 (settings .«reset_time»)) 6
+    ∷ check (inRange 0 1 (settings .«start_only»)) 7
+    ∷ []
+
+-- what the settings check answers
+unfoldable pub settingsRefusal : Settings → ℕ
+settingsRefusal settings = lowest (settingsChecks settings)
+
+-- "The trip level is M x 10^9."
+abbrev pub tripLevel : Settings → ℕ
+tripLevel settings = settings .«time_multiplier» * 10 ^ 9
+
+-- what the code and its proofs go by: settings that the check accepts (`settings-passed` of `proofs/`)
+pub record InRange (settings : Settings) : Type 0 where
+  pub operation : settings .operation ≤ 12
+  pub start-low : 10 ≤ settings .«start_current»
+  pub start-high : settings .«start_current» ≤ 3000
+  pub multiplier-low : 5 ≤ settings .«time_multiplier»
+  pub multiplier-high : settings .«time_multiplier» ≤ 1500
+  pub minimum-low : 40 ≤ settings .«minimum_delay»
+  pub minimum-high : settings .«minimum_delay» ≤ 60000
+  pub definite-low : 40 ≤ settings .«definite_delay»
+  pub definite-high : settings .«definite_delay» ≤ 60000
+  pub reset-low : 60 ≤ settings .«reset_time»
+  pub reset-high : settings .«reset_time» ≤ 60000
+  pub only : settings .«start_only» ≤ 1

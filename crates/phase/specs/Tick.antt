@@ -1,0 +1,116 @@
+-- One phase tick (01, 'One phase tick'), rule by rule.
+use Prim.Native.Nat.{ℕ, _+_, _-_, _*_, min}
+use mathlib.Core.Bool.{Bool, true, false, cond, _&&_}
+use mathlib.Core.List.{List, [], _∷_, _++_}
+use lib.Dec.{ltb, leb, eqb}
+use Rattle.curve.specs.Gain.{gainOf, lossOf}
+use Rattle.curve.specs.Ratio.{ratioOf}
+use Rattle.phase.specs.declared.operation.Kind.{Kind}
+use Rattle.phase.specs.declared.operation.Kind.the-variants.{Off, Definite, Iec, Ansi}
+use Rattle.phase.specs.declared.settings.Settings.{Settings}
+use Rattle.phase.specs.declared.state.PhaseState.{PhaseState}
+use Rattle.phase.specs.declared.tick.Ticked.{Ticked}
+use Rattle.phase.specs.Operation.{kindOf}
+use Rattle.phase.specs.Refusals.{Check, check, lowest, invalidState}
+use Rattle.phase.specs.Settings.{settingsChecks, tripLevel}
+use Rattle.phase.specs.State.{runLimit, clearState, valid}
+
+-- the gain and the loss of a tick with the sample g, at its ratio to the start current
+abbrev pub gainAt : Settings → ℕ → ℕ
+gainAt settings g = gainOf (settings .operation) (ratioOf g (settings .«start_current»))
+
+abbrev pub lossAt : Settings → ℕ → ℕ
+lossAt settings g = lossOf (settings .operation) (ratioOf g (settings .«start_current»))
+
+-- 2. "Started exactly when g is greater than 100 x s."
+-- The state is an argument although this rule does not look at it: a later rule does (02, E3).
+unfoldable pub started : Settings → PhaseState → ℕ → Bool
+started settings state g = ltb (100 * settings .«start_current») g
+
+-- "goes up by 1 (stops at 60,000)", of run and of drop
+abbrev pub countUp : ℕ → ℕ
+countUp n = min (n + 1) runLimit
+
+-- 3. "a curve's sum goes up by the gain (stops at the trip level)". Off has nothing above 0, and "Definite has no sum".
+abbrev pub sumUp : Kind → Settings → ℕ → ℕ → ℕ
+sumUp Off settings g sum = 0
+sumUp Definite settings g sum = 0
+sumUp Iec settings g sum = min (sum + gainAt settings g) (tripLevel settings)
+sumUp Ansi settings g sum = min (sum + gainAt settings g) (tripLevel settings)
+
+-- 3. "Started: run goes up by 1 (stops at 60,000), drop becomes 0, a curve's sum goes up .."
+abbrev pub afterStarted : Kind → Settings → ℕ → PhaseState → PhaseState
+afterStarted kind settings g state =
+    record { sum = sumUp kind settings g (state .sum); run = countUp (state .run); drop = 0 }
+
+-- 4. "IEC curves: sum becomes 0 once the new drop is at least the reset time, else it is kept.
+-- ANSI curves: sum goes down by the loss (stops at 0). Definite has no sum."
+abbrev pub sumDown : Kind → Settings → ℕ → ℕ → ℕ → ℕ
+sumDown Off settings g newDrop sum = 0
+sumDown Definite settings g newDrop sum = 0
+sumDown Iec settings g newDrop sum = cond (leb (settings .«reset_time») newDrop) 0 sum
+sumDown Ansi settings g newDrop sum = sum - lossAt settings g
+
+-- 4. "Not started: run becomes 0, drop goes up by 1 (stops at 60,000). .."
+abbrev pub afterIdle : Kind → Settings → ℕ → PhaseState → PhaseState
+afterIdle kind settings g state =
+    record { sum = sumDown kind settings g (countUp (state .drop)) (state .sum); run = 0; drop = countUp (state .drop) }
+
+abbrev pub moved : Bool → Kind → Settings → ℕ → PhaseState → PhaseState
+moved true kind settings g state = afterStarted kind settings g state
+moved false kind settings g state = afterIdle kind settings g state
+
+-- 1. "Off: everything stays 0 and off."
+abbrev pub nextBy : Kind → Bool → Settings → ℕ → PhaseState → PhaseState
+nextBy Off isStarted settings g state = clearState
+nextBy Definite isStarted settings g state = moved isStarted Definite settings g state
+nextBy Iec isStarted settings g state = moved isStarted Iec settings g state
+nextBy Ansi isStarted settings g state = moved isStarted Ansi settings g state
+
+-- the state after a tick
+unfoldable pub nextState : Settings → PhaseState → ℕ → PhaseState
+nextState settings state g = nextBy (kindOf (settings .operation)) (started settings state g) settings g state
+
+-- the start output: rule 2, and by rule 1 off for Off
+abbrev pub startBy : Kind → Bool → Bool
+startBy Off isStarted = false
+startBy Definite isStarted = isStarted
+startBy Iec isStarted = isStarted
+startBy Ansi isStarted = isStarted
+
+unfoldable pub phaseStart : Settings → PhaseState → ℕ → Bool
+phaseStart settings state g = startBy (kindOf (settings .operation)) (started settings state g)
+
+-- 5. "for Definite, run at least the definite delay; for a curve, sum at the trip level and run at least the minimum delay",
+-- of the state after the tick, whose sum stops at the trip level
+abbrev pub due : Kind → Settings → PhaseState → Bool
+due Off settings after = false
+due Definite settings after = leb (settings .«definite_delay») (after .run)
+due Iec settings after = leb (tripLevel settings) (after .sum) && leb (settings .«minimum_delay») (after .run)
+due Ansi settings after = leb (tripLevel settings) (after .sum) && leb (settings .«minimum_delay») (after .run)
+
+-- 5. "Phase trip: started, start only is 0, and, .."
+unfoldable pub phaseTrip : Settings → PhaseState → ℕ → Bool
+phaseTrip settings state g =
+    started settings state g && eqb (settings .«start_only») 0 && due (kindOf (settings .operation)) settings (nextState settings state g)
+
+-- a tick is refused by 1 to 8
+abbrev pub tickChecks : Settings → PhaseState → List Check
+tickChecks settings state = settingsChecks settings ++ (check (valid settings state) invalidState ∷ [])
+
+unfoldable pub tickRefusal : Settings → PhaseState → ℕ
+tickRefusal settings state = lowest (tickChecks settings state)
+
+-- an accepted tick
+abbrev pub tickOf : Settings → PhaseState → ℕ → Ticked
+tickOf settings state g =
+    record { refusal = 0; state = nextState settings state g; start = phaseStart settings state g; trip = phaseTrip settings state g }
+
+-- "A refusal returns its number, the state unchanged, all outputs off"
+abbrev pub refusedTick : ℕ → PhaseState → Ticked
+refusedTick refusal state = record { refusal = refusal; state = state; start = false; trip = false }
+
+-- what a tick answers
+unfoldable pub tickAnswer : Settings → PhaseState → ℕ → Ticked
+tickAnswer settings state g =
+    cond (eqb (tickRefusal settings state) 0) (tickOf settings state g) (refusedTick (tickRefusal settings state) state)

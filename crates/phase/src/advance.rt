@@ -1,0 +1,116 @@
+// The state after n equal ticks at once, with no loop. A single tick is n = 1.
+ghost use mathlib.Core.Path.{_≡_};
+ghost use Prim.Native.Nat.{_+_, _*_, _-_, _≤_, min};
+ghost use Rattle.phase.specs.Closed.{countAfter, sumUpAfter, sumDownAfter, movedAfter, afterBy};
+ghost use Rattle.phase.specs.Jump.{jumpLimit};
+ghost use Rattle.phase.specs.Pace.{Ready};
+ghost use Rattle.phase.specs.Settings.{InRange};
+ghost use Rattle.phase.specs.State.{runLimit};
+ghost use Rattle.phase.specs.Tick.{started};
+use crate::operation::Kind;
+use crate::pace::Pace;
+use crate::settings::Settings;
+use crate::settings::trip_level;
+use crate::state::PhaseState;
+
+// Whether a tick with this sample is started. The rule may come to look at the state, so it is asked for.
+pub fn is_started(settings: Settings, state: PhaseState, sample: u32) -> bool
+    requires { ⌜ InRange settings ⌝ }
+    ensures { λ r. ⌜ r ≡ started settings state sample ⌝ }
+{
+    100 * settings.start_current < sample
+}
+
+// A count that goes up by 1 at each of n ticks, and stops at its limit.
+fn count_after(n: u32, count: u32) -> u32
+    requires { ⌜ (n ≤ jumpLimit) × (count ≤ runLimit) ⌝ }
+    ensures { λ r. ⌜ r ≡ countAfter n count ⌝ }
+{
+    let total = count + n;
+    if total < PhaseState::RUN_LIMIT {
+        total
+    } else {
+        PhaseState::RUN_LIMIT
+    }
+}
+
+// A sum that goes up by the gain at each of n ticks, and stops at the level.
+fn filled(sum: u64, gain: u64, level: u64, n: u32) -> u64
+    requires { ⌜ (sum ≤ 1500000000000) × (gain ≤ 1000000000000) × (n ≤ jumpLimit) ⌝ }
+    ensures { λ r. ⌜ r ≡ min (sum + n * gain) level ⌝ }
+{
+    let total = sum + (n as u64) * gain;
+    if total < level { total } else { level }
+}
+
+// A sum that goes down by the loss at each of n ticks, and stops at 0.
+fn drained(sum: u64, loss: u64, n: u32) -> u64
+    requires { ⌜ (loss ≤ 1000000000000) × (n ≤ jumpLimit) ⌝ }
+    ensures { λ r. ⌜ r ≡ sum - n * loss ⌝ }
+{
+    let total = (n as u64) * loss;
+    if total < sum { sum - total } else { 0 }
+}
+
+fn sum_up_after(kind: Kind, settings: Settings, pace: Pace, n: u32, state: PhaseState) -> u64
+    requires { ⌜ Ready settings pace state × (n ≤ jumpLimit) ⌝ }
+    ensures { λ r. ⌜ r ≡ sumUpAfter kind settings (pace .sample) n (state .sum) ⌝ }
+{
+    match kind {
+        Kind::Off => 0,
+        Kind::Definite => 0,
+        Kind::Iec => filled(state.sum, pace.gain, trip_level(settings), n),
+        Kind::Ansi => filled(state.sum, pace.gain, trip_level(settings), n),
+    }
+}
+
+fn sum_down_after(
+    kind: Kind,
+    settings: Settings,
+    pace: Pace,
+    n: u32,
+    drop: u32,
+    state: PhaseState,
+) -> u64
+    requires { ⌜ Ready settings pace state × (n ≤ jumpLimit) ⌝ }
+    ensures { λ r. ⌜ r ≡ sumDownAfter kind settings (pace .sample) n drop (state .sum) ⌝ }
+{
+    match kind {
+        Kind::Off => 0,
+        Kind::Definite => 0,
+        Kind::Iec => if settings.reset_time <= drop {
+            0
+        } else {
+            state.sum
+        },
+        Kind::Ansi => drained(state.sum, pace.loss, n),
+    }
+}
+
+fn moved_after(kind: Kind, settings: Settings, pace: Pace, n: u32, state: PhaseState) -> PhaseState
+    requires { ⌜ Ready settings pace state × (n ≤ jumpLimit) ⌝ }
+    ensures { λ r. ⌜ r ≡ movedAfter (started settings state (pace .sample)) kind settings (pace .sample) n state ⌝ }
+{
+    if is_started(settings, state, pace.sample) {
+        let sum = sum_up_after(kind, settings, pace, n, state);
+        let run = count_after(n, state.run);
+        PhaseState { sum, run, drop: 0 }
+    } else {
+        let drop = count_after(n, state.drop);
+        let sum = sum_down_after(kind, settings, pace, n, drop, state);
+        PhaseState { sum, run: 0, drop }
+    }
+}
+
+// The state after n ticks, n above 0, of an operation of that group.
+pub fn advance(kind: Kind, settings: Settings, pace: Pace, n: u32, state: PhaseState) -> PhaseState
+    requires { ⌜ Ready settings pace state × (n ≤ jumpLimit) ⌝ }
+    ensures { λ r. ⌜ r ≡ afterBy kind (started settings state (pace .sample)) settings (pace .sample) n state ⌝ }
+{
+    match kind {
+        Kind::Off => PhaseState::clear(),
+        Kind::Definite => moved_after(kind, settings, pace, n, state),
+        Kind::Iec => moved_after(kind, settings, pace, n, state),
+        Kind::Ansi => moved_after(kind, settings, pace, n, state),
+    }
+}

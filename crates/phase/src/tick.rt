@@ -1,0 +1,102 @@
+// One tick of one phase.
+ghost use mathlib.Core.Path.{_≡_};
+ghost use Rattle.phase.specs.Pace.{Ready};
+ghost use Rattle.phase.specs.Refusals.{firstFailed};
+ghost use Rattle.phase.specs.Tick.{due, startBy, tickOf, tickChecks, tickAnswer};
+use crate::advance::advance;
+use crate::advance::is_started;
+use crate::bools::both;
+use crate::operation::Kind;
+use crate::operation::kind_of;
+use crate::pace::Pace;
+use crate::pace::pace_of;
+use crate::refusals::INVALID_STATE;
+use crate::settings::Settings;
+use crate::settings::check_then;
+use crate::settings::pick;
+use crate::settings::trip_level;
+use crate::state::PhaseState;
+use crate::state::is_valid;
+
+pub struct Ticked {
+    pub refusal: u32,
+    pub state: PhaseState,
+    pub start: bool,
+    pub trip: bool,
+}
+
+// Whether the trip is due in the state after a started tick.
+fn is_due(kind: Kind, settings: Settings, after: PhaseState) -> bool
+    ensures { λ r. ⌜ r ≡ due kind settings after ⌝ }
+{
+    match kind {
+        Kind::Off => false,
+        Kind::Definite => settings.definite_delay <= after.run,
+        Kind::Iec => both(
+            trip_level(settings) <= after.sum,
+            settings.minimum_delay <= after.run,
+        ),
+        Kind::Ansi => both(
+            trip_level(settings) <= after.sum,
+            settings.minimum_delay <= after.run,
+        ),
+    }
+}
+
+// The start output.
+fn start_by(kind: Kind, started: bool) -> bool
+    ensures { λ r. ⌜ r ≡ startBy kind started ⌝ }
+{
+    match kind {
+        Kind::Off => false,
+        Kind::Definite => started,
+        Kind::Iec => started,
+        Kind::Ansi => started,
+    }
+}
+
+// A tick of settings and a state that were checked before.
+pub fn tick_ready(settings: Settings, pace: Pace, state: PhaseState) -> Ticked
+    requires { ⌜ Ready settings pace state ⌝ }
+    ensures { λ r. ⌜ r ≡ tickOf settings state (pace .sample) ⌝ }
+{
+    let kind = kind_of(settings.operation);
+    let started = is_started(settings, state, pace.sample);
+    let after = advance(kind, settings, pace, 1, state);
+    let start = start_by(kind, started);
+    let allowed = both(started, settings.start_only == 0);
+    let trip = both(allowed, is_due(kind, settings, after));
+    Ticked {
+        refusal: 0,
+        state: after,
+        start,
+        trip,
+    }
+}
+
+// The lowest number of 1 to 8 that applies, else `rest`.
+pub fn refusal_then(settings: Settings, state: PhaseState, rest: u32) -> u32
+    ensures { λ r. ⌜ r ≡ firstFailed (tickChecks settings state) rest ⌝ }
+{
+    check_then(
+        settings,
+        pick(is_valid(settings, state), rest, INVALID_STATE),
+    )
+}
+
+// One tick: refused by the lowest number that applies, else the state and the outputs of rules 1 to 5.
+pub fn tick(settings: Settings, state: PhaseState, g: u32) -> Ticked
+    ensures { λ r. ⌜ r ≡ tickAnswer settings state g ⌝ }
+{
+    let refusal = refusal_then(settings, state, 0);
+    if refusal != 0 {
+        return Ticked {
+            refusal,
+            state,
+            start: false,
+            trip: false,
+        };
+    }
+    let pace = pace_of(settings, g);
+    tick_ready(settings, pace, state)
+}
