@@ -64,7 +64,7 @@ fn never(operation: u32) {
 }
 
 // Source document 001, table 2-1, line by line.
-pub fn ansi_table() {
+pub(crate) fn ansi_table() {
     say(
         b"Source document 001, table 2-1, in seconds. A time agrees if it differs by less than one in the last printed place.\n",
     );
@@ -97,7 +97,7 @@ pub fn ansi_table() {
     operate(9, 1000, 407, 3);
 }
 
-pub fn iec_points() {
+pub(crate) fn iec_points() {
     say(b"\nThe IEC curves at 2, 5, 10 and 20 times the setting\n");
     operate(2, 200, 10030, 2);
     operate(2, 500, 4280, 2);
@@ -118,7 +118,7 @@ pub fn iec_points() {
 }
 
 // The class examples on the ratio.
-pub fn ratios() {
+pub(crate) fn ratios() {
     say(b"\nThe ratio of the largest sample, 4294967295, at the largest start current, 3000\n");
     let ratio = curve::ratio_of(4294967295, 3000);
     say(b"ratio       ");

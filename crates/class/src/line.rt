@@ -1,7 +1,7 @@
 // How a line of the class's tables is written.
 use libc::STDOUT_FILENO;
 
-pub fn say(text: &[u8]) {
+pub(crate) fn say(text: &[u8]) {
     io::write_all(STDOUT_FILENO, text);
 }
 
@@ -24,7 +24,7 @@ fn digit(n: u64) {
 }
 
 // A time in microseconds, as seconds.
-pub fn seconds(microseconds: u64) {
+pub(crate) fn seconds(microseconds: u64) {
     whole(microseconds / 1000000);
     say(b".");
     digit(microseconds / 100000);
@@ -36,7 +36,7 @@ pub fn seconds(microseconds: u64) {
 }
 
 // A time in milliseconds, as seconds with the one to three places that were printed.
-pub fn printed(milliseconds: u32, places: u32) {
+pub(crate) fn printed(milliseconds: u32, places: u32) {
     let time = milliseconds as u64;
     whole(time / 1000);
     say(b".");
@@ -54,7 +54,7 @@ fn place(is_printed: bool, n: u64) {
 }
 
 // A ratio in hundredths, as a multiple of the setting.
-pub fn multiple(ratio: u32) {
+pub(crate) fn multiple(ratio: u32) {
     let m = ratio as u64;
     whole(m / 100);
     say(b".");
@@ -63,7 +63,7 @@ pub fn multiple(ratio: u32) {
 }
 
 // The verdict on a line, and its end.
-pub fn verdict(agrees: bool) {
+pub(crate) fn verdict(agrees: bool) {
     if agrees {
         say(b"   agrees\n");
     } else {
@@ -72,7 +72,7 @@ pub fn verdict(agrees: bool) {
 }
 
 // Whether a time in microseconds is the printed one in milliseconds, cut or rounded to its places.
-pub fn within_its_places(microseconds: u64, milliseconds: u32, places: u32) -> bool {
+pub(crate) fn within_its_places(microseconds: u64, milliseconds: u32, places: u32) -> bool {
     let printed = (milliseconds as u64) * 1000;
     let last_place = match places {
         1 => 100000,

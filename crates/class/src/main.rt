@@ -2,10 +2,12 @@
 mod curves;
 mod line;
 mod phases;
+mod timers;
 
 fn main() {
     curves::ansi_table();
     curves::iec_points();
     curves::ratios();
     phases::phase_examples();
+    timers::timer_examples();
 }

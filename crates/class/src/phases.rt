@@ -33,7 +33,7 @@ fn sum_after(idle: u32) -> u64 {
     jump(settings(200), dipping, 0, idle).state.sum
 }
 
-pub fn phase_examples() {
+pub(crate) fn phase_examples() {
     say(b"\nOne phase, IEC VeryInv\n");
     say(b"start current 200, sample 20000: not started");
     verdict(!starts(200, 20000));

@@ -25,7 +25,7 @@ fn row(k: u64, c: u64, a: Power, kr: u64) -> Constants
 }
 
 // The row of an operation from 2 to 12.
-pub fn constants_of(operation: u32) -> Constants
+pub(crate) fn constants_of(operation: u32) -> Constants
     requires { ⌜ (2 ≤ operation) × (operation ≤ 12) ⌝ }
     ensures { λ r. ⌜ r ≡ constantsOf operation ⌝ }
 {

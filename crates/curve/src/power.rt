@@ -5,7 +5,7 @@ ghost use Rattle.curve.specs.Power.{X};
 use crate::power_table::X_TABLE;
 
 // X(m) for a ratio m from 101 to 2000.
-pub fn x_of(ratio: u32) -> u64
+pub(crate) fn x_of(ratio: u32) -> u64
     requires { ⌜ (101 ≤ ratio) × (ratio ≤ 2000) ⌝ }
     ensures { λ r. ⌜ r ≡ X ratio ⌝ }
 {

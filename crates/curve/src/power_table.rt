@@ -1,7 +1,7 @@
 // The constant table of X(m).
 
 // X(101), X(102) .. X(2000), as docs/power_table.py prints them.
-pub const X_TABLE: [u64; 1900] = [
+pub(crate) const X_TABLE: [u64; 1900] = [
     5024458557,
     2524417523,
     1691043557,

@@ -11,7 +11,7 @@ pub fn quotient(n: u64, d: u64) -> u64
 }
 
 // n divided by d, rounded up.
-pub fn round_up(n: u64, d: u64) -> u64
+pub(crate) fn round_up(n: u64, d: u64) -> u64
     requires { ⌜ (n ≤ 10 ^ 14) × (0 < d) × (d ≤ 10 ^ 14) ⌝ }
     ensures { λ r. ⌜ r ≡ roundedUp n d ⌝ }
 {

@@ -14,7 +14,7 @@ use crate::settings::trip_level;
 use crate::state::PhaseState;
 
 // Whether a tick with this sample is started. The rule may come to look at the state, so it is asked for.
-pub fn is_started(settings: Settings, state: PhaseState, sample: u32) -> bool
+pub(crate) fn is_started(settings: Settings, state: PhaseState, sample: u32) -> bool
     requires { ⌜ InRange settings ⌝ }
     ensures { λ r. ⌜ r ≡ started settings state sample ⌝ }
 {
@@ -103,7 +103,13 @@ fn moved_after(kind: Kind, settings: Settings, pace: Pace, n: u32, state: PhaseS
 }
 
 // The state after n ticks, n above 0, of an operation of that group.
-pub fn advance(kind: Kind, settings: Settings, pace: Pace, n: u32, state: PhaseState) -> PhaseState
+pub(crate) fn advance(
+    kind: Kind,
+    settings: Settings,
+    pace: Pace,
+    n: u32,
+    state: PhaseState,
+) -> PhaseState
     requires { ⌜ Ready settings pace state × (n ≤ jumpLimit) ⌝ }
     ensures { λ r. ⌜ r ≡ afterBy kind (started settings state (pace .sample)) settings (pace .sample) n state ⌝ }
 {

@@ -73,7 +73,13 @@ fn first_due(kind: Kind, settings: Settings, pace: Pace, n: u32, state: PhaseSta
     }
 }
 
-pub fn first_trip(kind: Kind, settings: Settings, pace: Pace, n: u32, state: PhaseState) -> u32
+pub(crate) fn first_trip(
+    kind: Kind,
+    settings: Settings,
+    pace: Pace,
+    n: u32,
+    state: PhaseState,
+) -> u32
     requires { ⌜ Ready settings pace state ⌝ }
     ensures { λ r. ⌜ r ≡ firstTripBy kind (started settings state (pace .sample)) settings (pace .sample) n state ⌝ }
 {

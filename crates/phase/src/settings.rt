@@ -24,14 +24,14 @@ impl Settings {
     }
 }
 
-pub fn in_range(low: u32, high: u32, n: u32) -> bool
+pub(crate) fn in_range(low: u32, high: u32, n: u32) -> bool
     ensures { λ r. ⌜ r ≡ inRange low high n ⌝ }
 {
     if low <= n { n <= high } else { false }
 }
 
 // The sum at which a curve trips.
-pub fn trip_level(settings: Settings) -> u64
+pub(crate) fn trip_level(settings: Settings) -> u64
     ensures { λ r. ⌜ r ≡ tripLevel settings ⌝ }
 {
     settings.time_multiplier as u64 * 1000000000

@@ -75,7 +75,7 @@ pub fn tick_ready(settings: Settings, pace: Pace, state: PhaseState) -> Ticked
 }
 
 // The lowest number of 1 to 8 that applies, else `rest`.
-pub fn refusal_then(settings: Settings, state: PhaseState, rest: u32) -> u32
+pub(crate) fn refusal_then(settings: Settings, state: PhaseState, rest: u32) -> u32
     ensures { λ r. ⌜ r ≡ firstFailed (tickChecks settings state) rest ⌝ }
 {
     check_then(

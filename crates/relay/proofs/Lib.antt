@@ -1,0 +1,5 @@
+pub mod RelayLaws
+pub mod ByteLaws
+pub mod BatchLaws
+pub mod BorderLaws
+pub mod TimerLaws

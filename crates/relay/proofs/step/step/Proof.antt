@@ -1,0 +1,74 @@
+-- `relay::step::step` meets its contract.
+-- Assumes nothing.
+use borrow.Author.Needs.{needs}
+use Rattle.phase.proofs.Accepted.{ready}
+use Rattle.relay.proofs.RelayLaws.{each-valid, stepped}
+use Rattle.relay.proofs.step.step.Statement.{statement}
+use Rattle.relay.proofs.step.step.Tie as tie
+
+next-pace-requires : tie.Need-next-pace-requires
+next-pace-requires c κs = search needs
+
+next-pace-requires-2 : tie.Need-next-pace-requires-2
+next-pace-requires-2 c κs = search needs
+
+next-pace-requires-3 : tie.Need-next-pace-requires-3
+next-pace-requires-3 c κs = search needs
+
+element-copy-out-tick-ready : tie.Need-element-copy-out-tick-ready
+element-copy-out-tick-ready c = search needs
+
+tick-ready-requires : tie.Need-tick-ready-requires
+tick-ready-requires c κs =
+    let a = c .before .before .before .before .args in
+    let v = each-valid (a .settings) (a .t3) (c .before .before .before .before .pre .1) in
+    rw (c .before .before .before .next-pace .ensures) (ready (a .settings) _ (a .l1) (c .before .before .before .before .pre .0) (v .l1))
+
+element-copy-out-tick-ready-2 : tie.Need-element-copy-out-tick-ready-2
+element-copy-out-tick-ready-2 c = search needs
+
+tick-ready-requires-2 : tie.Need-tick-ready-requires-2
+tick-ready-requires-2 c κs =
+    let a = c .before .before .before .before .before .before .args in
+    let v = each-valid (a .settings) (a .t3) (c .before .before .before .before .before .before .pre .1) in
+    rw (c .before .before .before .before .next-pace2 .ensures) (ready (a .settings) _ (a .l2) (c .before .before .before .before .before .before .pre .0) (v .l2))
+
+element-copy-out-tick-ready-3 : tie.Need-element-copy-out-tick-ready-3
+element-copy-out-tick-ready-3 c = search needs
+
+tick-ready-requires-3 : tie.Need-tick-ready-requires-3
+tick-ready-requires-3 c κs =
+    let a = c .before .before .before .before .before .before .before .before .args in
+    let v = each-valid (a .settings) (a .t3) (c .before .before .before .before .before .before .before .before .pre .1) in
+    rw (c .before .before .before .before .before .next-pace3 .ensures) (ready (a .settings) _ (a .l3) (c .before .before .before .before .before .before .before .before .pre .0) (v .l3))
+
+output-byte-requires : tie.Need-output-byte-requires
+output-byte-requires c κs = search needs
+
+returns : tie.Need-returns
+returns c =
+    let a = c .before .before .before .before .before .before .before .before .before .before .before .before .before .args in
+    stepped (a .settings) (a .t3) (a .l1) (a .l2) (a .l3) (a .block) _ _ _ _ _ _ _
+    (c .before .before .before .before .before .before .before .before .before .before .before .before .next-pace .ensures)
+    (c .before .before .before .before .before .before .before .before .before .before .before .next-pace2 .ensures)
+    (c .before .before .before .before .before .before .before .before .before .before .next-pace3 .ensures)
+    (c .before .before .before .before .before .before .before .before .tick-ready .ensures)
+    (c .before .before .before .before .before .before .tick-ready2 .ensures)
+    (c .before .before .before .before .tick-ready3 .ensures)
+    (c .before .before .before .output-byte .ensures)
+
+pub step-spec : {M : Type 1} → statement M
+step-spec =
+    tie.close
+    (tie.spec
+    next-pace-requires
+    next-pace-requires-2
+    next-pace-requires-3
+    element-copy-out-tick-ready
+    tick-ready-requires
+    element-copy-out-tick-ready-2
+    tick-ready-requires-2
+    element-copy-out-tick-ready-3
+    tick-ready-requires-3
+    output-byte-requires
+    returns)

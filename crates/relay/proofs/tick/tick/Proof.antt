@@ -1,0 +1,58 @@
+-- `relay::tick::tick` meets its contract: asked first, then one step.
+-- Assumes nothing.
+use mathlib.Core.Bool.{cond}
+use mathlib.Core.Path.{_≡_, sym, _∙_, ap}
+use borrow.Author.Needs.{needs}
+use lib.Dec.{leb}
+use Rattle.relay.proofs.RelayLaws.{paces-are-paced, relay-passed, tick-accepted, tick-refused}
+use Rattle.relay.specs.Tick.{tickRefusal}
+use Rattle.relay.specs.declared.step.Stepped.{Stepped}
+use Rattle.relay.specs.declared.tick.Ticked.{Ticked}
+use Rattle.relay.proofs.tick.tick.Statement.{statement}
+use Rattle.relay.proofs.tick.tick.Tie as tie
+
+pick-requires : tie.Need-pick-requires
+pick-requires c κs = search needs
+
+refusal-then-requires : tie.Need-refusal-then-requires
+refusal-then-requires c κs = search needs
+
+returns : tie.Need-returns
+unfolding tickRefusal
+returns c =
+    let a = c .before .before .before .args in
+    let e : c .before .refusal-then .result ≡ tickRefusal (a .settings) (a .state) (a .block) = cc in
+    sym (tick-refused (a .settings) (a .state) (a .l1) (a .l2) (a .l3) (a .block) _ e (c .if1 .taken))
+
+paces-of-requires : tie.Need-paces-of-requires
+paces-of-requires c κs = search needs
+
+step-requires : tie.Need-step-requires
+unfolding tickRefusal
+step-requires c κs =
+    let a = c .before .before .before .before .args in
+    let e : c .before .before .refusal-then .result ≡ tickRefusal (a .settings) (a .state) (a .block) = cc in
+    let p = relay-passed (a .settings) (a .state) (cond (leb (a .block) 1) 0 14) (sym e ∙ c .before .if1 .left) in
+    (p .0, p .1, rw (c .paces-of .ensures) (paces-are-paced (a .settings) (a .l1) (a .l2) (a .l3)))
+
+returns-2 : tie.Need-returns-2
+unfolding tickRefusal
+returns-2 c =
+    let a = c .before .before .before .before .before .before .args in
+    let e : c .before .before .before .before .refusal-then .result ≡ tickRefusal (a .settings) (a .state) (a .block) = cc in
+    ap (λ (s : Stepped). ticked s) (c .before .step .ensures)
+    ∙ sym (tick-accepted (a .settings) (a .state) (a .l1) (a .l2) (a .l3) (a .block) (sym e ∙ c .before .before .before .if1 .left))
+  where
+    ticked : Stepped → Ticked
+    ticked s = record { refusal = 0; state = s .state; outputs = s .outputs }
+
+pub tick-spec : {M : Type 1} → statement M
+tick-spec =
+    tie.close
+    (tie.spec
+    pick-requires
+    refusal-then-requires
+    returns
+    paces-of-requires
+    step-requires
+    returns-2)

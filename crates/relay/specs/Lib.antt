@@ -1,0 +1,8 @@
+pub mod State
+pub mod Outputs
+pub mod Tick
+pub mod Step
+pub mod Batch
+pub mod Bytes
+pub mod Border
+pub mod Timer

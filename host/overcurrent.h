@@ -1,0 +1,141 @@
+/*
+ * Phase overcurrent relay module: the two functions of librelay.a.
+ *
+ * Three phases L1, L2, L3, one tick per millisecond. The rules are those of
+ * document 01; this page says what a caller in C needs of them.
+ *
+ * Both functions return a refusal number, 0 when the call is accepted. They
+ * keep nothing between calls: all that goes on from one batch to the next is
+ * in the caller's `states`.
+ *
+ * The archive is for x86-64.
+ * Stack needed: 600 bytes; on the operations 2, 6, 7 and 10, whose table of
+ * X(m) is built on the stack, 16,000 bytes. Read off its disassembly.
+ * It wants no symbol from elsewhere, memcpy neither.
+ */
+#ifndef OVERCURRENT_H
+#define OVERCURRENT_H
+
+#include <stddef.h>
+#include <stdint.h>
+
+#ifdef __cplusplus
+extern "C" {
+#endif
+
+/* The setting `operation`. */
+enum oc_operation {
+    OC_OFF = 0,
+    OC_DEFINITE = 1,
+    OC_IEC_INV = 2,
+    OC_IEC_VERY_INV = 3,
+    OC_IEC_EXT_INV = 4,
+    OC_IEC_LONG_INV = 5,
+    OC_ANSI_INV = 6,
+    OC_ANSI_MOD_INV = 7,
+    OC_ANSI_VERY_INV = 8,
+    OC_ANSI_EXT_INV = 9,
+    OC_ANSI_LONG_INV = 10,
+    OC_ANSI_LONG_VERY_INV = 11,
+    OC_ANSI_LONG_EXT_INV = 12
+};
+
+/*
+ * Refusal numbers. Where several apply to a call, the lowest is given.
+ *
+ * oc_check_settings gives 0 to 7; oc_batch gives any of these. The other
+ * numbers of document 01 belong to calls that the archive does not export.
+ */
+enum oc_refusal {
+    OC_ACCEPTED = 0,
+
+    /* A setting is outside its range. Every setting is checked, whatever the operation. */
+    OC_BAD_OPERATION = 1,       /* not 0 to 12 */
+    OC_BAD_START_CURRENT = 2,   /* not 10 to 3000 (% of rated current) */
+    OC_BAD_TIME_MULTIPLIER = 3, /* not 5 to 1500 (hundredths) */
+    OC_BAD_MINIMUM_DELAY = 4,   /* not 40 to 60000 (ms) */
+    OC_BAD_DEFINITE_DELAY = 5,  /* not 40 to 60000 (ms) */
+    OC_BAD_RESET_TIME = 6,      /* not 60 to 60000 (ms) */
+    OC_BAD_START_ONLY = 7,      /* not 0 or 1 */
+
+    /*
+     * `states` has its 48 bytes and one of the three states is not valid under
+     * these settings: the sum is above time_multiplier x 10^9; run or drop is
+     * above 60000; run and drop are both above 0; the operation is Definite
+     * and the sum is not 0; the operation is Off and anything is not 0.
+     * States kept from before a change of settings may be refused by this
+     * number; they are never cleared silently.
+     */
+    OC_BAD_STATE = 8,
+
+    /*
+     * Lengths do not agree: l1_len, l2_len or l3_len is not 4 x block_len, or
+     * out_len is not block_len, or states_len is not 48.
+     */
+    OC_BAD_LENGTH = 10,
+
+    OC_TOO_LONG = 11, /* lengths agree and block_len is above 60000 */
+    OC_BAD_BLOCK = 14 /* a block byte, the last one included, is not 0 or 1 */
+};
+
+/* One tick's output byte. */
+enum oc_output {
+    OC_START_L1 = 1,
+    OC_START_L2 = 2,
+    OC_START_L3 = 4,
+    OC_TRIP_L1 = 8,
+    OC_TRIP_L2 = 16,
+    OC_TRIP_L3 = 32,
+    OC_GENERAL_START = 64, /* any phase started, and the tick's block byte is 0 */
+    OC_GENERAL_TRIP = 128  /* any phase tripped, and the tick's block byte is 0 */
+};
+
+#define OC_STATES_LENGTH 48    /* bytes */
+#define OC_LONGEST_BATCH 60000 /* ticks */
+
+/* The refusal number of these settings, 0 when each is in its range. */
+uint32_t oc_check_settings(uint32_t operation, uint32_t start_current, uint32_t time_multiplier,
+                           uint32_t minimum_delay, uint32_t definite_delay, uint32_t reset_time,
+                           uint32_t start_only);
+
+/*
+ * Runs block_len ticks of the three phases.
+ *
+ * Each slice is a pointer and then its length in bytes:
+ *
+ *   l1, l2, l3  read     the currents, 4 bytes a tick, little-endian, in units of
+ *                        0.01 % of rated current; any 32-bit number is a current
+ *   block       read     one byte a tick, 0 or 1
+ *   out         written  one output byte a tick (enum oc_output)
+ *   states      both     48 bytes, 16 for each phase, L1 first:
+ *                        sum in 8 bytes, run in 4, drop in 4, each little-endian.
+ *                        All zero is the clear state, to start from.
+ *
+ * Accepted (0): out holds the output of every tick, and states the states
+ * after the last one, to be handed to the next batch as they are. A batch of
+ * 0 ticks is accepted and leaves the states as they were.
+ *
+ * Refused: no byte of out or states is touched. Whatever out holds then is
+ * what the caller left there; it reports nothing.
+ *
+ * The caller sees to it that
+ *   - each pointer has as many bytes behind it as its length says;
+ *   - no two slices overlap, out and states least of all.
+ * A slice of length 0 may be NULL. No alignment is needed. The archive does
+ * not write to l1, l2, l3 and block.
+ */
+uint32_t oc_batch(uint32_t operation, uint32_t start_current, uint32_t time_multiplier,
+                  uint32_t minimum_delay, uint32_t definite_delay, uint32_t reset_time,
+                  uint32_t start_only,
+                  const uint8_t *l1, size_t l1_len,
+                  const uint8_t *l2, size_t l2_len,
+                  const uint8_t *l3, size_t l3_len,
+                  const uint8_t *block, size_t block_len,
+                  uint8_t *out, size_t out_len,
+                  uint8_t *states, size_t states_len);
+
+#ifdef __cplusplus
+}
+#endif
+
+#endif
