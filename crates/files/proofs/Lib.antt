@@ -1,0 +1,16 @@
+pub mod Cases
+pub mod DigitLaws
+pub mod DecimalLaws
+pub mod ScanLaws
+pub mod ShapeLaws
+pub mod LineLaws
+pub mod RowLaws
+pub mod SettingsLineLaws
+pub mod OutputLaws
+pub mod ProgressLaws
+pub mod RefusedLaws
+pub mod PortionLaws
+pub mod FeedLaws
+pub mod AnswerLaws
+pub mod InputLaws
+pub mod ReplayLaws

@@ -1,0 +1,76 @@
+-- A line's turn of the replay: from what the code has at hand to what the definitions say.
+-- Assumes nothing.
+use mathlib.Core.Path.{_≡_, sym, ap, _∙_}
+use mathlib.Core.List.{List}
+use Prim.Native.Nat.{ℕ, _+_}
+use native.Mathlib.Omega.{arith}
+use lib.ListN.{length}
+use lib.Seq.{sets}
+use Rattle.relay.specs.declared.tick.Ticked.{Ticked}
+use Rattle.files.specs.declared.row.Row.{Row}
+use Rattle.files.specs.declared.row.RowRead.{RowRead}
+use Rattle.files.specs.declared.row.RowRead.the-variants.{Accepted, Refused}
+use Rattle.files.specs.declared.progress.Stage.{Stage}
+use Rattle.files.specs.declared.progress.Stage.the-variants.{Opening, Running, Stopped}
+use Rattle.files.specs.declared.progress.Progress.{Progress}
+use Rattle.files.specs.declared.progress.Noted.{Noted}
+use Rattle.files.specs.Row.{rowAnswer}
+use Rattle.files.specs.SettingsLine.{settingsLineAnswer}
+use Rattle.files.specs.Replay.{stopped, opened, stepped, changed, changeOf, ticked, notedOf, afterBy, wroteBy, afterLine, wroteLine}
+
+-- ---- a row
+
+module _ (p : Progress) (a : RowRead) (x : Row) (t : Ticked) (q : a ≡ Accepted x) (e : t ≡ ticked p x) where
+  pub row-change : changed p a ≡ changeOf (p .done + 1) (t .outputs) (p .outputs)
+  row-change = ap (changed p) q ∙ ap (λ (y : Ticked). changeOf (p .done + 1) (y .outputs) (p .outputs)) (sym e)
+
+  row-progress : stepped p a ≡ record { stage = Running; settings = p .settings; relay = t .state; done = p .done + 1; outputs = t .outputs }
+  row-progress =
+      ap (stepped p) q
+      ∙ ap (λ (y : Ticked). record { stage = Running; settings = p .settings; relay = y .state; done = p .done + 1; outputs = y .outputs }) (sym e)
+
+  pub row-noted : (end at : ℕ) → end ≡ at + length (changeOf (p .done + 1) (t .outputs) (p .outputs))
+      → record { progress = record { stage = Running; settings = p .settings; relay = t .state; done = p .done + 1; outputs = t .outputs }; written = end }
+      ≡ notedOf (stepped p a) (changed p a) at
+  row-noted end at h = rw (row-progress, row-change, h)
+
+module _ (p : Progress) (a : RowRead) (n : ℕ) (q : a ≡ Refused n) where
+  pub refused-noted : (s : Progress) (at : ℕ) → s ≡ stopped n p → record { progress = s; written = at } ≡ notedOf (stepped p a) (changed p a) at
+  refused-noted s at e = let z : at + 0 ≡ at = omega arith in rw (q, e, z)
+
+  pub refused-quiet : (out : List ℕ) (at : ℕ) → out ≡ sets out at (changed p a)
+  refused-quiet out at = rw q
+
+-- ---- a line, by the stage
+
+module _ (p : Progress) (l : List ℕ) (at : ℕ) where
+  pub opening-noted : (s : Progress) → p .stage ≡ Opening → s ≡ opened p (settingsLineAnswer l) → record { progress = s; written = at } ≡ notedOf (afterLine p l) (wroteLine p l) at
+  unfolding afterBy wroteBy
+  opening-noted s e h =
+      let z : at ≡ at + 0 = omega arith in
+      ap (λ (x : Progress). record { progress = x; written = at }) h
+      ∙ ap (λ (n : ℕ). record { progress = opened p (settingsLineAnswer l); written = n }) z
+      ∙ ap (λ (g : Stage). notedOf (afterBy g p l) (wroteBy g p l) at) (sym e)
+
+  pub stopped-noted : (n : ℕ) → p .stage ≡ Stopped n → record { progress = p; written = at } ≡ notedOf (afterLine p l) (wroteLine p l) at
+  unfolding afterBy wroteBy
+  stopped-noted n e =
+      let z : at ≡ at + 0 = omega arith in
+      ap (λ (n : ℕ). record { progress = p; written = n }) z ∙ ap (λ (g : Stage). notedOf (afterBy g p l) (wroteBy g p l) at) (sym e)
+
+  pub opening-quiet : (out : List ℕ) → p .stage ≡ Opening → out ≡ sets out at (wroteLine p l)
+  unfolding wroteBy
+  opening-quiet out e = ap (λ (g : Stage). sets out at (wroteBy g p l)) (sym e)
+
+  pub stopped-quiet : (out : List ℕ) (n : ℕ) → p .stage ≡ Stopped n → out ≡ sets out at (wroteLine p l)
+  unfolding wroteBy
+  stopped-quiet out n e = ap (λ (g : Stage). sets out at (wroteBy g p l)) (sym e)
+
+  module _ (e : p .stage ≡ Running) where
+    pub running-wrote : changed p (rowAnswer l (p .done)) ≡ wroteLine p l
+    unfolding wroteBy
+    running-wrote = ap (λ (g : Stage). wroteBy g p l) (sym e)
+
+    pub running-noted : (r : Noted) → r ≡ notedOf (stepped p (rowAnswer l (p .done))) (changed p (rowAnswer l (p .done))) at → r ≡ notedOf (afterLine p l) (wroteLine p l) at
+    unfolding afterBy wroteBy
+    running-noted r q = q ∙ ap (λ (g : Stage). notedOf (afterBy g p l) (wroteBy g p l) at) (sym e)

@@ -1,0 +1,115 @@
+-- Lines that are refused whatever follows, and a replay that has stopped.
+-- Assumes nothing.
+use mathlib.Core.Path.{_≡_, refl, ap, _∙_}
+use mathlib.Core.Bool.{false}
+use mathlib.Core.List.{List, [], _∷_, _++_}
+use Prim.Native.Nat.{ℕ, _+_, _≤_, _<_}
+use native.Mathlib.Omega.{arith}
+use lib.ListN.{length, length-append}
+use Rattle.files.specs.declared.progress.Stage.{Stage}
+use Rattle.files.specs.declared.progress.Stage.the-variants.{Opening, Running, Stopped}
+use Rattle.files.specs.declared.progress.Progress.{Progress}
+use Rattle.files.specs.Line.{endsCrLf, rightShape}
+use Rattle.files.specs.Row.{rowWidths, rowRefusal, rowAnswer}
+use Rattle.files.specs.SettingsLine.{settingsWidths, settingsLineRefusal, settingsLineAnswer}
+use Rattle.files.specs.Lines.{lastLine, linesFrom}
+use Rattle.files.specs.Replay.{stopped, afterBy, wroteBy, afterLine, wroteLine, endOf, byLines}
+use Rattle.files.specs.Portions.{refuseBy, refuse}
+use Rattle.files.proofs.Cases.{by-cond, not-both, not-true}
+use Rattle.files.proofs.ScanLaws.{total}
+use Rattle.files.proofs.ShapeLaws.{right-ends, shape-most}
+
+-- ---- a line of neither shape
+
+-- the line is neither a row nor a settings line
+pub record Misshapen (l : List ℕ) : Type 0 where
+  pub no-row : rightShape rowWidths l ≡ false
+  pub no-settings : rightShape settingsWidths l ≡ false
+
+-- one of 46 bytes or more
+pub long-misshapen : (l : List ℕ) → 46 ≤ length l → Misshapen l
+unfolding total
+long-misshapen l h = record {
+  no-row = not-true (rightShape rowWidths l) (λ e. omega (arith, shape-most rowWidths l (omega arith) e));
+  no-settings = not-true (rightShape settingsWidths l) (λ e. omega (arith, shape-most settingsWidths l (omega arith) e));
+}
+
+-- one that is not closed
+pub open-misshapen : (l : List ℕ) → endsCrLf l ≡ false → Misshapen l
+open-misshapen l h = record {
+  no-row = not-true (rightShape rowWidths l) (λ e. not-both (endsCrLf l) (right-ends rowWidths l e) h);
+  no-settings = not-true (rightShape settingsWidths l) (λ e. not-both (endsCrLf l) (right-ends settingsWidths l e) h);
+}
+
+misshapen-after : (g : Stage) (p : Progress) (l : List ℕ) → Misshapen l → afterBy g p l ≡ refuseBy g p
+unfolding afterBy refuseBy rowAnswer rowRefusal settingsLineAnswer settingsLineRefusal
+misshapen-after Opening p l h = rw (h .no-settings)
+misshapen-after Running p l h = rw (h .no-row)
+misshapen-after (Stopped n) p l h = refl
+
+misshapen-wrote : (g : Stage) (p : Progress) (l : List ℕ) → Misshapen l → wroteBy g p l ≡ []
+unfolding wroteBy rowAnswer rowRefusal
+misshapen-wrote Opening p l h = refl
+misshapen-wrote Running p l h = rw (h .no-row)
+misshapen-wrote (Stopped n) p l h = refl
+
+-- ---- a replay that has stopped writes its end line and nothing else
+
+pub by-cons : (p : Progress) (l : List ℕ) (ls : List (List ℕ)) → byLines p (l ∷ ls) ≡ wroteLine p l ++ byLines (afterLine p l) ls
+unfolding byLines
+by-cons p l ls = refl
+
+pub by-nil : (p : Progress) → byLines p [] ≡ endOf p
+unfolding byLines
+by-nil p = refl
+
+quiet : (p : Progress) (n : ℕ) (l : List ℕ) (ls : List (List ℕ)) → wroteBy (Stopped n) p l ++ byLines (afterBy (Stopped n) p l) ls ≡ byLines p ls
+unfolding wroteBy afterBy
+quiet p n l ls = refl
+
+pub stopped-ends : (p : Progress) (n : ℕ) (ls : List (List ℕ)) → p .stage ≡ Stopped n → byLines p ls ≡ endOf p
+stopped-ends p n [] e = by-nil p
+stopped-ends p n (l ∷ ls) e =
+    by-cons p l ls
+    ∙ ap (λ (g : Stage). wroteBy g p l ++ byLines (afterBy g p l) ls) e
+    ∙ quiet p n l ls
+    ∙ stopped-ends p n ls e
+
+refused-ends-by : (g : Stage) (p : Progress) (ls : List (List ℕ)) → p .stage ≡ g → byLines (refuseBy g p) ls ≡ endOf (refuseBy g p)
+unfolding refuseBy
+refused-ends-by Opening p ls e = stopped-ends (stopped 12 p) 12 ls refl
+refused-ends-by Running p ls e = stopped-ends (stopped 12 p) 12 ls refl
+refused-ends-by (Stopped n) p ls e = stopped-ends p n ls e
+
+pub refused-ends : (p : Progress) (ls : List (List ℕ)) → byLines (refuse p) ls ≡ endOf (refuse p)
+refused-ends p ls = refused-ends-by (p .stage) p ls refl
+
+-- ---- a line of neither shape stops the replay
+
+pub misshapen-ends : (p : Progress) (l : List ℕ) (ls : List (List ℕ)) → Misshapen l → byLines p (l ∷ ls) ≡ endOf (refuse p)
+misshapen-ends p l ls h =
+    by-cons p l ls
+    ∙ ap (λ (w : List ℕ). w ++ byLines (afterLine p l) ls) (misshapen-wrote (p .stage) p l h)
+    ∙ ap (λ (x : Progress). byLines x ls) (misshapen-after (p .stage) p l h)
+    ∙ refused-ends p ls
+
+pub last-line : (l : List ℕ) → 0 < length l → lastLine l ≡ l ∷ []
+unfolding lastLine
+last-line [] h = absurd (omega arith)
+last-line (a ∷ l) h = refl
+
+-- the end of the input in a line that is not closed
+pub open-ends : (p : Progress) (l : List ℕ) → 0 < length l → endsCrLf l ≡ false → byLines p (linesFrom l []) ≡ endOf (refuse p)
+unfolding linesFrom
+open-ends p l k h = rw (last-line l k) (misshapen-ends p l [] (open-misshapen l h))
+
+-- a line of 46 bytes or more is refused wherever it ends
+pub long-ends : (p : Progress) (l s : List ℕ) → 46 ≤ length l → byLines p (linesFrom l s) ≡ endOf (refuse p)
+unfolding linesFrom
+long-ends p l [] h = rw (last-line l (omega arith)) (misshapen-ends p l [] (long-misshapen l h))
+long-ends p l (a ∷ s) h =
+    let k : 46 ≤ length (l ++ (a ∷ [])) = rw length-append (omega arith) in
+    by-cond (λ (ls : List (List ℕ)). byLines p ls ≡ endOf (refuse p)) (endsCrLf (l ++ (a ∷ [])))
+    ((l ++ (a ∷ [])) ∷ linesFrom [] s) (linesFrom (l ++ (a ∷ [])) s)
+    (λ e. misshapen-ends p (l ++ (a ∷ [])) (linesFrom [] s) (long-misshapen _ k))
+    (λ e. long-ends p (l ++ (a ∷ [])) s k)

@@ -1,0 +1,84 @@
+-- The replay of some inputs, whole.
+-- Assumes nothing.
+use mathlib.Core.Path.{_≡_, refl, sym, ap, _∙_}
+use mathlib.Core.Bool.{true, false}
+use mathlib.Core.List.{List, [], _∷_, append-nil}
+use Prim.Native.Nat.{ℕ, _<_}
+use native.Mathlib.Omega.{arith}
+use lib.ListN.{length}
+use Rattle.phase.specs.Settings.{settingsRefusal}
+use Rattle.files.specs.declared.settings_line.SettingsRead.{SettingsRead}
+use Rattle.files.specs.declared.settings_line.SettingsRead.the-variants.{Accepted}
+use Rattle.files.specs.declared.progress.Progress.{Progress}
+use Rattle.files.specs.Line.{numbersOf, rightShape}
+use Rattle.files.specs.SettingsLine.{settingsWidths, settingsOf, settingsLineRefusal, settingsLineAnswer}
+use Rattle.files.specs.Output.{endLine}
+use Rattle.files.specs.Lines.{lastLine, linesFrom, linesOf}
+use Rattle.files.specs.Replay.{freshProgress, stopped, opened, afterBy, wroteBy, endRefusal, endOf, byLines, replayOf}
+use Rattle.files.proofs.Cases.{by-cond}
+use Rattle.files.proofs.SettingsLineLaws.{settings-refused}
+use Rattle.files.proofs.RefusedLaws.{Misshapen, open-misshapen, stopped-ends, last-line}
+use Rattle.files.proofs.InputLaws.{hasCrLf, has-ends, open-input, line-first}
+
+-- "an empty input (12)"
+pub replay-of-nothing : replayOf [] ≡ endLine 0 12
+unfolding replayOf linesFrom lastLine byLines endRefusal
+replay-of-nothing = refl
+
+-- the first line is the settings line
+opening : (l : List ℕ) (ls : List (List ℕ)) → byLines freshProgress (l ∷ ls) ≡ byLines (opened freshProgress (settingsLineAnswer l)) ls
+unfolding byLines afterBy wroteBy
+opening l ls = refl
+
+stopped-end : (n : ℕ) (p : Progress) → endOf (stopped n p) ≡ endLine (p .done) n
+unfolding endRefusal
+stopped-end n p = refl
+
+refused-opening : (l : List ℕ) (ls : List (List ℕ)) (n : ℕ) → settingsLineRefusal l ≡ n → (n ≡ 0 → ⊥) → byLines freshProgress (l ∷ ls) ≡ endLine 0 n
+refused-opening l ls n e k =
+    opening l ls
+    ∙ ap (λ (a : SettingsRead). byLines (opened freshProgress a) ls) (sym (settings-refused l n e k))
+    ∙ stopped-ends (stopped n freshProgress) n ls refl
+    ∙ stopped-end n freshProgress
+
+-- "A refused settings line .. gives only `end,0,` and the number", whatever follows
+pub replay-of-refused-settings : (s l : List ℕ) (ls : List (List ℕ)) (n : ℕ) → linesOf s ≡ l ∷ ls → settingsLineRefusal l ≡ n → (n ≡ 0 → ⊥)
+    → replayOf s ≡ endLine 0 n
+unfolding replayOf
+replay-of-refused-settings s l ls n e h k = ap (byLines freshProgress) e ∙ refused-opening l ls n h k
+
+misshapen-settings : (l : List ℕ) → Misshapen l → settingsLineRefusal l ≡ 12
+unfolding settingsLineRefusal
+misshapen-settings l h = rw (h .no-settings)
+
+-- an input without CR LF, such as a settings line that is not closed
+pub replay-of-open-line : (s : List ℕ) → 0 < length s → hasCrLf s ≡ false → replayOf s ≡ endLine 0 12
+replay-of-open-line s h k =
+    replay-of-refused-settings s s [] 12 (open-input s k ∙ last-line s h) (misshapen-settings s (open-misshapen s (has-ends s k))) (λ e. omega arith)
+
+accepted-settings : (l : List ℕ) → settingsLineRefusal l ≡ 0 → settingsLineAnswer l ≡ Accepted (settingsOf (numbersOf l))
+unfolding settingsLineAnswer
+accepted-settings l e = rw e
+
+accepted-shape : (l : List ℕ) → settingsLineRefusal l ≡ 0 → rightShape settingsWidths l ≡ true
+unfolding settingsLineRefusal
+accepted-shape l =
+    by-cond (λ (n : ℕ). n ≡ 0 → rightShape settingsWidths l ≡ true) (rightShape settingsWidths l) (settingsRefusal (settingsOf (numbersOf l))) 12
+    (λ t e. t) (λ t e. absurd (omega arith))
+
+lines-one : (l : List ℕ) → settingsLineRefusal l ≡ 0 → linesOf l ≡ l ∷ []
+unfolding linesFrom lastLine
+lines-one l e = ap linesOf (sym (append-nil l)) ∙ line-first settingsWidths l [] (accepted-shape l e)
+
+end-running : (l : List ℕ) → byLines (opened freshProgress (Accepted (settingsOf (numbersOf l)))) [] ≡ endLine 0 0
+unfolding byLines endRefusal
+end-running l = refl
+
+-- an accepted settings line alone
+pub replay-of-settings-alone : (l : List ℕ) → settingsLineRefusal l ≡ 0 → replayOf l ≡ endLine 0 0
+unfolding replayOf
+replay-of-settings-alone l e =
+    ap (byLines freshProgress) (lines-one l e)
+    ∙ opening l []
+    ∙ ap (λ (a : SettingsRead). byLines (opened freshProgress a) []) (accepted-settings l e)
+    ∙ end-running l

@@ -1,0 +1,127 @@
+-- From the line that was read to the row's answer; and what an answer tells of its row.
+-- Assumes nothing.
+use mathlib.Core.Path.{_≡_, refl, sym, _∙_}
+use mathlib.Core.Bool.{true, false, cond}
+use mathlib.Core.List.{List, [], _∷_}
+use Prim.Native.Nat.{ℕ, _+_, _^_, _≤_, _<_}
+use native.Mathlib.Omega.{arith}
+use lib.Dec.{leb, eqb}
+use lib.ListN.{length, getD}
+use borrow.Author.Tests.{eq-eqb, ne-eqb, le-leb, lt-leb, eqb-true}
+use Rattle.files.specs.declared.line.Line.{Line}
+use Rattle.files.specs.declared.row.Row.{Row}
+use Rattle.files.specs.declared.row.RowRead.{RowRead}
+use Rattle.files.specs.declared.row.RowRead.the-variants.{Accepted, Refused}
+use Rattle.files.specs.Number.{decimal}
+use Rattle.files.specs.Line.{narrow, rightShape, numbersOf, lineAnswer, fitsIn, valuesOf, written}
+use Rattle.files.specs.Row.{rowWidths, rowOf, rowRefusal, rowAnswer}
+use Rattle.files.proofs.Cases.{by-cond}
+use Rattle.files.proofs.DecimalLaws.{decimal-back}
+use Rattle.files.proofs.ShapeLaws.{shape-least, number-below, fits-none, fits-decimal, written-right, written-numbers}
+use Rattle.files.proofs.LineLaws.{line-shape, line-number}
+
+pub narrow-row : narrow rowWidths ≡ true
+unfolding narrow
+narrow-row = refl
+
+-- ---- the answer, by the tests
+
+module _ (s : List ℕ) (last : ℕ) where
+  row-refused : (n : ℕ) → rowRefusal s last ≡ n → (n ≡ 0 → ⊥) → Refused n ≡ rowAnswer s last
+  unfolding rowAnswer
+  row-refused n e k = rw (e, ne-eqb n 0 k)
+
+  module _ (r : Line) (e : r ≡ lineAnswer rowWidths s) where
+    pub row-shape : r .right ≡ false → Refused 12 ≡ rowAnswer s last
+    unfolding rowRefusal
+    row-shape t = row-refused 12 (rw (sym (line-shape rowWidths s (omega arith) r e) ∙ t)) (λ k. omega arith)
+
+    module _ (t : r .right ≡ true) where
+      -- the number of field k, and that it fits
+      row-at : (k : ℕ) → k < 6 → (getD (r .numbers) k 0 ≡ getD (numbersOf s) k 0) × (getD (numbersOf s) k 0 < 10 ^ getD rowWidths k 0)
+      row-at k h = line-number rowWidths s (omega arith) r e t k (omega arith) h
+
+      pub row-fits : (k : ℕ) → k < 6 → getD (r .numbers) k 0 < 10 ^ getD rowWidths k 0
+      row-fits k h = rw (row-at k h .0) (row-at k h .1)
+
+      right : rightShape rowWidths s ≡ true
+      right = sym (line-shape rowWidths s (omega arith) r e) ∙ t
+
+      pub row-number : (getD (r .numbers) 0 0 ≡ last + 1 → ⊥) → Refused 13 ≡ rowAnswer s last
+      unfolding rowRefusal
+      row-number n = row-refused 13 (rw (right, ← row-at 0 (omega arith) .0, ne-eqb (getD (r .numbers) 0 0) (last + 1) n)) (λ k. omega arith)
+
+      module _ (n : getD (r .numbers) 0 0 ≡ last + 1) where
+        pub row-block : 1 < getD (r .numbers) 5 0 → Refused 14 ≡ rowAnswer s last
+        unfolding rowRefusal
+        row-block b =
+            row-refused 14
+            (rw (right, ← row-at 0 (omega arith) .0, eq-eqb (getD (r .numbers) 0 0) (last + 1) n, ← row-at 5 (omega arith) .0, lt-leb (getD (r .numbers) 5 0) 1 b))
+            (λ k. omega arith)
+
+        module _ (b : getD (r .numbers) 5 0 ≤ 1) where
+          none : rowRefusal s last ≡ 0
+          unfolding rowRefusal
+          none = rw (right, ← row-at 0 (omega arith) .0, eq-eqb (getD (r .numbers) 0 0) (last + 1) n, ← row-at 5 (omega arith) .0, le-leb (getD (r .numbers) 5 0) 1 b)
+
+          same : rowOf (r .numbers) ≡ rowOf (numbersOf s)
+          same = rw (row-at 0 (omega arith) .0, row-at 2 (omega arith) .0, row-at 3 (omega arith) .0, row-at 4 (omega arith) .0, row-at 5 (omega arith) .0)
+
+          pub row-accepted : Accepted (rowOf (r .numbers)) ≡ rowAnswer s last
+          unfolding rowAnswer
+          row-accepted = rw (none, same)
+
+-- ---- an accepted row
+
+-- P of an answer, where it holds of a refusal and of an accepted row, which has 13 bytes or more and a number of at most
+-- six digits
+pub by-row : (P : RowRead → Type 0) (s : List ℕ) (last : ℕ) → ((n : ℕ) → P (Refused n))
+    → ((x : Row) → rightShape rowWidths s ≡ true → 13 ≤ length s → last + 1 ≤ 999999 → P (Accepted x)) → P (rowAnswer s last)
+unfolding rowAnswer rowRefusal
+by-row P s last f g =
+    by-cond P (eqb (rowRefusal s last) 0) (Accepted (rowOf (numbersOf s))) (Refused (rowRefusal s last))
+    (λ e.
+    by-cond (λ (n : ℕ). n ≡ 0 → P (Accepted (rowOf (numbersOf s)))) (rightShape rowWidths s)
+    (cond (eqb (getD (numbersOf s) 0 0) (last + 1)) (cond (leb (getD (numbersOf s) 5 0) 1) 0 14) 13) 12
+    (λ t.
+    by-cond (λ (n : ℕ). n ≡ 0 → P (Accepted (rowOf (numbersOf s)))) (eqb (getD (numbersOf s) 0 0) (last + 1)) (cond (leb (getD (numbersOf s) 5 0) 1) 0 14) 13
+    (λ n k.
+    g (rowOf (numbersOf s)) t (omega (arith, shape-least rowWidths s (omega arith) t))
+    (omega (arith, eqb-true (getD (numbersOf s) 0 0) (last + 1) n, number-below rowWidths s (omega arith) t 0)))
+    (λ n k. absurd (omega arith)))
+    (λ t k. absurd (omega arith))
+    (eqb-true (rowRefusal s last) 0 e))
+    (λ e. f (rowRefusal s last))
+
+pub accepted-row : (s : List ℕ) (last : ℕ) (x : Row) → rowAnswer s last ≡ Accepted x → (13 ≤ length s) × (last + 1 ≤ 999999)
+accepted-row s last x =
+    by-row (λ (a : RowRead). a ≡ Accepted x → (13 ≤ length s) × (last + 1 ≤ 999999)) s last
+    (λ n e. let z : _≡_ {A = ℕ} 0 1 = cc in absurd (omega arith))
+    (λ y t k m e. (k, m))
+
+-- after row 999,999 no row is right
+pub no-row-after-last : (s : List ℕ) (x : Row) → rowAnswer s 999999 ≡ Accepted x → ⊥
+no-row-after-last s x e = let k = accepted-row s 999999 x e .1 in omega arith
+
+-- ---- a row that is written in decimals is read back
+
+module _ (last stamp a b c block : ℕ) (n : last + 1 ≤ 999999) (t : stamp ≤ 9999999999) (ka : a ≤ 9999999) (kb : b ≤ 9999999) (kc : c ≤ 9999999) (kd : block ≤ 1) where
+  abbrev fields : List (List ℕ)
+  fields = decimal (last + 1) ∷ decimal stamp ∷ decimal a ∷ decimal b ∷ decimal c ∷ decimal block ∷ []
+
+  fields-fit : fitsIn rowWidths fields ≡ true
+  fields-fit =
+      fits-decimal 5 (last + 1) _ _ (omega arith) (omega arith)
+      (fits-decimal 9 stamp _ _ (omega arith) (omega arith)
+      (fits-decimal 6 a _ _ (omega arith) (omega arith)
+      (fits-decimal 6 b _ _ (omega arith) (omega arith)
+      (fits-decimal 6 c _ _ (omega arith) (omega arith)
+      (fits-decimal 0 block _ _ (omega arith) (omega arith) fits-none)))))
+
+  fields-values : valuesOf fields ≡ (last + 1) ∷ stamp ∷ a ∷ b ∷ c ∷ block ∷ []
+  unfolding valuesOf
+  fields-values = rw (decimal-back (last + 1) (omega arith), decimal-back stamp (omega arith), decimal-back a (omega arith), decimal-back b (omega arith), decimal-back c (omega arith), decimal-back block (omega arith))
+
+  pub row-back : rowAnswer (written fields) last ≡ Accepted (record { number = last + 1; l1 = a; l2 = b; l3 = c; block = block })
+  unfolding rowAnswer rowRefusal
+  row-back = rw (written-right 6 _ fields fields-fit, written-numbers 6 _ fields fields-fit, fields-values, eq-eqb (last + 1) (last + 1) refl, le-leb block 1 kd)

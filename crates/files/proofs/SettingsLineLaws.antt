@@ -1,0 +1,58 @@
+-- From the line that was read to the settings line's answer.
+-- Assumes nothing.
+use mathlib.Core.Path.{_≡_, refl, sym, _∙_}
+use mathlib.Core.Bool.{true, false}
+use mathlib.Core.List.{List}
+use Prim.Native.Nat.{ℕ, _^_, _<_}
+use native.Mathlib.Omega.{arith}
+use lib.ListN.{getD}
+use borrow.Author.Tests.{ne-eqb}
+use Rattle.phase.specs.Settings.{settingsRefusal}
+use Rattle.files.specs.declared.line.Line.{Line}
+use Rattle.files.specs.declared.settings_line.SettingsRead.the-variants.{Accepted, Refused}
+use Rattle.files.specs.Line.{narrow, numbersOf, lineAnswer}
+use Rattle.files.specs.SettingsLine.{settingsWidths, settingsOf, settingsLineRefusal, settingsLineAnswer}
+use Rattle.files.proofs.LineLaws.{line-shape, line-number}
+
+pub narrow-settings : narrow settingsWidths ≡ true
+unfolding narrow
+narrow-settings = refl
+
+pub settings-refused : (s : List ℕ) (n : ℕ) → settingsLineRefusal s ≡ n → (n ≡ 0 → ⊥) → Refused n ≡ settingsLineAnswer s
+unfolding settingsLineAnswer
+settings-refused s n e k = rw (e, ne-eqb n 0 k)
+
+module _ (s : List ℕ) (r : Line) (e : r ≡ lineAnswer settingsWidths s) where
+  pub settings-shape : r .right ≡ false → Refused 12 ≡ settingsLineAnswer s
+  unfolding settingsLineRefusal
+  settings-shape t = settings-refused s 12 (rw (sym (line-shape settingsWidths s (omega arith) r e) ∙ t)) (λ k. omega arith)
+
+  module _ (t : r .right ≡ true) where
+    settings-at : (k : ℕ) → k < 7 → (getD (r .numbers) k 0 ≡ getD (numbersOf s) k 0) × (getD (numbersOf s) k 0 < 10 ^ getD settingsWidths k 0)
+    settings-at k h = line-number settingsWidths s (omega arith) r e t k (omega arith) h
+
+    pub settings-fits : (k : ℕ) → k < 7 → getD (r .numbers) k 0 < 10 ^ getD settingsWidths k 0
+    settings-fits k h = rw (settings-at k h .0) (settings-at k h .1)
+
+    same : settingsOf (r .numbers) ≡ settingsOf (numbersOf s)
+    same =
+        rw (
+          settings-at 0 (omega arith) .0,
+          settings-at 1 (omega arith) .0,
+          settings-at 2 (omega arith) .0,
+          settings-at 3 (omega arith) .0,
+          settings-at 4 (omega arith) .0,
+          settings-at 5 (omega arith) .0,
+          settings-at 6 (omega arith) .0,
+        )
+
+    checked : settingsLineRefusal s ≡ settingsRefusal (settingsOf (r .numbers))
+    unfolding settingsLineRefusal
+    checked = rw (sym (line-shape settingsWidths s (omega arith) r e) ∙ t, same)
+
+    pub settings-checked : (n : ℕ) → n ≡ settingsRefusal (settingsOf (r .numbers)) → (n ≡ 0 → ⊥) → Refused n ≡ settingsLineAnswer s
+    settings-checked n q k = settings-refused s n (checked ∙ sym q) k
+
+    pub settings-accepted : settingsRefusal (settingsOf (r .numbers)) ≡ 0 → Accepted (settingsOf (r .numbers)) ≡ settingsLineAnswer s
+    unfolding settingsLineAnswer
+    settings-accepted q = rw (checked ∙ q, same)

@@ -1,0 +1,70 @@
+-- `files::progress::on_line` meets its contract: by the stage.
+-- Assumes nothing.
+use mathlib.Core.Path.{ap, _∙_}
+use native.Mathlib.Omega.{arith}
+use lib.Seq.{sets}
+use Rattle.files.proofs.ProgressLaws.{opening-noted, opening-quiet, stopped-noted, stopped-quiet, running-noted, running-wrote}
+use borrow.Author.Needs.{needs}
+use Rattle.files.proofs.progress.on_line.Statement.{statement}
+use Rattle.files.proofs.progress.on_line.Tie as tie
+
+enum-told : tie.Need-enum-told
+enum-told c = search needs
+
+on-settings-line-requires : tie.Need-on-settings-line-requires
+on-settings-line-requires c κs = search needs
+
+enum-told-2 : tie.Need-enum-told-2
+enum-told-2 c = search needs
+
+on-row-requires : tie.Need-on-row-requires
+on-row-requires c κs = search needs
+
+enum-told-3 : tie.Need-enum-told-3
+enum-told-3 c = search needs
+
+returns : tie.Need-returns
+returns c =
+    let a = c .before .before .before .before .before .args in
+    let e = c .before .enum-told .given .1 in (
+      (
+        opening-noted (a .p) (a .line .now) (a .at) (c .on-settings-line .result) e (c .on-settings-line .ensures),
+        opening-quiet (a .p) (a .line .now) (a .at) (a .out .now) e,
+      ),
+      omega arith,
+    )
+
+same-length : tie.Need-same-length
+same-length c = search needs
+
+returns-2 : tie.Need-returns-2
+returns-2 c =
+    let a = c .before .before .before .before .before .before .before .before .args in
+    let e = c .before .before .before .before .enum-told2 .given .1 in
+    let f = c .before .before .on-row .ensures in (
+      (
+        running-noted (a .p) (a .line .now) (a .at) e _ (f .0 .0),
+        f .0 .1 ∙ ap (sets (a .out .now) (a .at)) (running-wrote (a .p) (a .line .now) (a .at) e),
+      ),
+      f .1,
+    )
+
+returns-3 : tie.Need-returns-3
+returns-3 c =
+    let a = c .before .before .before .before .args in
+    let e = c .enum-told3 .given .1 in
+    ((stopped-noted (a .p) (a .line .now) (a .at) _ e, stopped-quiet (a .p) (a .line .now) (a .at) (a .out .now) _ e), omega arith)
+
+pub on-line-spec : {M : Type 1} → statement M
+on-line-spec =
+    tie.close
+    (tie.spec
+    enum-told
+    on-settings-line-requires
+    enum-told-2
+    on-row-requires
+    enum-told-3
+    returns
+    same-length
+    returns-2
+    returns-3)

@@ -1,0 +1,117 @@
+-- `files::row::read_row` meets its contract: the tests in the order of the refusal numbers.
+-- Assumes nothing.
+use native.Mathlib.Omega.{arith}
+use borrow.Author.Tests.{not-true, not-false}
+use Rattle.files.proofs.RowLaws.{narrow-row, row-fits, row-shape, row-number, row-block, row-accepted}
+use borrow.Author.Needs.{needs}
+use Rattle.files.proofs.row.read_row.Statement.{statement}
+use Rattle.files.proofs.row.read_row.Tie as tie
+
+slice-aggregate-read-line : tie.Need-slice-aggregate-read-line
+slice-aggregate-read-line c = search needs
+
+read-line-requires : tie.Need-read-line-requires
+read-line-requires c κs = (omega arith, omega arith, narrow-row)
+
+returns : tie.Need-returns
+returns c =
+    let a = c .before .before .before .before .before .args in
+    let l = c .before .before .read-line in
+    row-shape (a .row .now) (a .last) (l .result) (l .ensures) (not-true (l .result .right) (c .if1 .taken))
+
+array-read-if2 : tie.Need-array-read-if2
+array-read-if2 c = search needs
+
+add-if2 : tie.Need-add-if2
+add-if2 c = search needs
+
+returns-2 : tie.Need-returns-2
+returns-2 c =
+    let a = c .before .before .before .before .before .before .before .args in
+    let l = c .before .before .before .before .read-line in
+    row-number (a .row .now) (a .last) (l .result) (l .ensures) (not-false (l .result .right) (c .before .before .if1 .left)) (c .if2 .taken)
+
+array-read-if3 : tie.Need-array-read-if3
+array-read-if3 c = search needs
+
+returns-3 : tie.Need-returns-3
+returns-3 c =
+    let a = c .before .before .before .before .before .before .before .before .args in
+    let l = c .before .before .before .before .before .read-line in
+    row-block (a .row .now) (a .last) (l .result) (l .ensures) (not-false (l .result .right) (c .before .before .before .if1 .left)) (c .before .if2 .left) (c .if3 .taken)
+
+array-read-t13 : tie.Need-array-read-t13
+array-read-t13 c = search needs
+
+cast-t18 : tie.Need-cast-t18
+cast-t18 c =
+    let a = c .before .before .before .before .before .before .before .before .args in
+    let l = c .before .before .before .before .before .read-line in
+    let z = row-fits (a .row .now) (a .last) (l .result) (l .ensures) (not-false (l .result .right) (c .before .before .before .if1 .left)) 0 (omega arith) in
+    omega (arith, z)
+
+array-read-t12 : tie.Need-array-read-t12
+array-read-t12 c = search needs
+
+cast-t21 : tie.Need-cast-t21
+cast-t21 c =
+    let a = c .before .before .before .before .before .before .before .before .args in
+    let l = c .before .before .before .before .before .read-line in
+    let z = row-fits (a .row .now) (a .last) (l .result) (l .ensures) (not-false (l .result .right) (c .before .before .before .if1 .left)) 2 (omega arith) in
+    omega (arith, z)
+
+array-read-t11 : tie.Need-array-read-t11
+array-read-t11 c = search needs
+
+cast-t24 : tie.Need-cast-t24
+cast-t24 c =
+    let a = c .before .before .before .before .before .before .before .before .args in
+    let l = c .before .before .before .before .before .read-line in
+    let z = row-fits (a .row .now) (a .last) (l .result) (l .ensures) (not-false (l .result .right) (c .before .before .before .if1 .left)) 3 (omega arith) in
+    omega (arith, z)
+
+array-read-t27 : tie.Need-array-read-t27
+array-read-t27 c = search needs
+
+cast-t28 : tie.Need-cast-t28
+cast-t28 c =
+    let a = c .before .before .before .before .before .before .before .before .args in
+    let l = c .before .before .before .before .before .read-line in
+    let z = row-fits (a .row .now) (a .last) (l .result) (l .ensures) (not-false (l .result .right) (c .before .before .before .if1 .left)) 4 (omega arith) in
+    omega (arith, z)
+
+array-read-t31 : tie.Need-array-read-t31
+array-read-t31 c = search needs
+
+cast-t32 : tie.Need-cast-t32
+cast-t32 c = search needs
+
+returns-4 : tie.Need-returns-4
+returns-4 c =
+    let a = c .before .before .before .before .before .before .before .before .args in
+    let l = c .before .before .before .before .before .read-line in
+    row-accepted (a .row .now) (a .last) (l .result) (l .ensures) (not-false (l .result .right) (c .before .before .before .if1 .left)) (c .before .if2 .left) (c .if3 .left)
+
+pub read-row-spec : {M : Type 1} → statement M
+read-row-spec =
+    tie.close
+    (tie.spec
+    slice-aggregate-read-line
+    read-line-requires
+    returns
+    array-read-if2
+    add-if2
+    returns-2
+    array-read-if3
+    returns-3
+    array-read-t13
+    cast-t18
+    array-read-t12
+    cast-t21
+    array-read-t11
+    cast-t24
+    array-read-t27
+    cast-t28
+    array-read-t31
+    cast-t32
+    returns-4)

@@ -1,0 +1,21 @@
+// Layer 4: numbers in text, data rows, the settings line, and the replay.
+mod line;
+mod number;
+mod output;
+mod progress;
+mod replay;
+mod row;
+mod settings_line;
+
+pub use progress::Progress;
+pub use progress::Stage;
+pub use replay::Fed;
+pub use replay::Replay;
+pub use replay::feed;
+pub use replay::finish;
+pub use replay::has_stopped;
+pub use row::Row;
+pub use row::RowRead;
+pub use row::read_row;
+pub use settings_line::SettingsRead;
+pub use settings_line::read_settings_line;

@@ -1,0 +1,205 @@
+// The replay, line by line: the settings line, then the rows.
+ghost use mathlib.Core.Path.{_≡_};
+ghost use Prim.Native.Nat.{_+_, _≤_};
+ghost use lib.ListN.{length};
+ghost use lib.Seq.{sets};
+ghost use Rattle.files.specs.Row.{rowAnswer};
+ghost use Rattle.files.specs.SettingsLine.{settingsLineAnswer};
+ghost use Rattle.files.specs.Output.{endRoom};
+ghost use Rattle.files.specs.Replay.{freshProgress, stopped, opened, stepped, changed, changeOf, notedOf, afterLine, wroteLine, endRefusal, endOf};
+ghost use Rattle.files.specs.Portions.{refuse};
+use crate::output::put_change;
+use crate::output::put_end;
+use crate::row::RowRead;
+use crate::row::read_row;
+use crate::settings_line::SettingsRead;
+use crate::settings_line::read_settings_line;
+use phase::Settings;
+use phase::refusals::WRONG_SHAPE;
+use relay::RelayState;
+
+// What the next line is to be; after a refusal, its number.
+pub enum Stage {
+    Opening,
+    Running,
+    Stopped(u32),
+}
+
+// The stage, the settings, the relay's state, the rows done, and the output byte of the last.
+pub struct Progress {
+    pub stage: Stage,
+    pub settings: Settings,
+    pub relay: RelayState,
+    pub done: u32,
+    pub outputs: u8,
+}
+
+// The progress after a line, and the place after what the line wrote.
+pub struct Noted {
+    pub progress: Progress,
+    pub written: usize,
+}
+
+impl Progress {
+    pub fn fresh() -> Self
+        ensures { λ r. ⌜ r ≡ freshProgress ⌝ }
+    {
+        let settings = Settings {
+            operation: 0,
+            start_current: 0,
+            time_multiplier: 0,
+            minimum_delay: 0,
+            definite_delay: 0,
+            reset_time: 0,
+            start_only: 0,
+        };
+        let relay = RelayState::clear();
+        Progress {
+            stage: Stage::Opening,
+            settings,
+            relay,
+            done: 0,
+            outputs: 0,
+        }
+    }
+}
+
+fn stop(p: Progress, refusal: u32) -> Progress
+    ensures { λ r. ⌜ r ≡ stopped refusal p ⌝ }
+{
+    let settings = p.settings;
+    let relay = p.relay;
+    Progress {
+        stage: Stage::Stopped(refusal),
+        settings,
+        relay,
+        done: p.done,
+        outputs: p.outputs,
+    }
+}
+
+// A line that is of wrong shape, whatever follows.
+pub(crate) fn refuse_shape(p: Progress) -> Progress
+    ensures { λ r. ⌜ r ≡ refuse p ⌝ }
+{
+    let stage = p.stage;
+    match stage {
+        Stage::Opening => stop(p, WRONG_SHAPE),
+        Stage::Running => stop(p, WRONG_SHAPE),
+        Stage::Stopped(_) => p,
+    }
+}
+
+fn on_settings_line(p: Progress, line: &[u8]) -> Progress
+    ensures { λ r. ⌜ r ≡ opened p (settingsLineAnswer (now (line .entry))) ⌝ }
+{
+    let answer = read_settings_line(line);
+    match answer {
+        SettingsRead::Accepted(settings) => {
+            let relay = p.relay;
+            Progress {
+                stage: Stage::Running,
+                settings,
+                relay,
+                done: p.done,
+                outputs: p.outputs,
+            }
+        }
+        SettingsRead::Refused(n) => stop(p, n),
+    }
+}
+
+// The line of a tick whose output byte differs from the one before, and nothing for any other.
+fn note_change(out: &mut [u8], at: usize, row: u32, outputs: u8, before: u8) -> usize
+    requires { ⌜ (row ≤ 999999) × (at + 11 ≤ length (now out)) ⌝ }
+    ensures { λ r. ⌜ (r ≡ at + length (changeOf row outputs before))
+        × (now (out .exit) ≡ sets (now (out .entry)) at (changeOf row outputs before)) ⌝ }
+    ensures { λ r. ⌜ r ≤ at + 11 ⌝ }
+{
+    if outputs == before {
+        return at;
+    }
+    put_change(out, at, row, outputs)
+}
+
+// A row. What it writes is never longer than the row itself.
+fn on_row(p: Progress, line: &[u8], out: &mut [u8], at: usize) -> Noted
+    requires { ⌜ at + length (now line) ≤ length (now out) ⌝ }
+    ensures { λ r. ⌜ (r ≡ notedOf (stepped p (rowAnswer (now (line .entry)) (p .done))) (changed p (rowAnswer (now (line .entry)) (p .done))) at)
+        × (now (out .exit) ≡ sets (now (out .entry)) at (changed p (rowAnswer (now (line .entry)) (p .done)))) ⌝ }
+    ensures { λ r. ⌜ r .written ≤ at + length (now (line .entry)) ⌝ }
+{
+    let answer = read_row(line, p.done);
+    match answer {
+        RowRead::Accepted(x) => {
+            let settings = p.settings;
+            let t = relay::tick::tick(settings, p.relay, x.l1, x.l2, x.l3, x.block);
+            let done = p.done + 1;
+            let end = note_change(out, at, done, t.outputs, p.outputs);
+            let relay = t.state;
+            let progress = Progress {
+                stage: Stage::Running,
+                settings,
+                relay,
+                done,
+                outputs: t.outputs,
+            };
+            Noted {
+                progress,
+                written: end,
+            }
+        }
+        RowRead::Refused(n) => {
+            let progress = stop(p, n);
+            Noted {
+                progress,
+                written: at,
+            }
+        }
+    }
+}
+
+// One line of the input, which writes at a place of the output.
+pub(crate) fn on_line(p: Progress, line: &[u8], out: &mut [u8], at: usize) -> Noted
+    requires { ⌜ at + length (now line) ≤ length (now out) ⌝ }
+    ensures { λ r. ⌜ (r ≡ notedOf (afterLine p (now (line .entry))) (wroteLine p (now (line .entry))) at)
+        × (now (out .exit) ≡ sets (now (out .entry)) at (wroteLine p (now (line .entry)))) ⌝ }
+    ensures { λ r. ⌜ r .written ≤ at + length (now (line .entry)) ⌝ }
+{
+    let stage = p.stage;
+    match stage {
+        Stage::Opening => {
+            let progress = on_settings_line(p, line);
+            Noted {
+                progress,
+                written: at,
+            }
+        }
+        Stage::Running => on_row(p, line, out, at),
+        Stage::Stopped(_) => Noted {
+            progress: p,
+            written: at,
+        },
+    }
+}
+
+// The refusal number of the end line: where no settings line came, its shape is wrong.
+fn end_refusal(stage: Stage) -> u32
+    ensures { λ r. ⌜ r ≡ endRefusal stage ⌝ }
+{
+    match stage {
+        Stage::Opening => WRONG_SHAPE,
+        Stage::Running => 0,
+        Stage::Stopped(n) => n,
+    }
+}
+
+// The end line, at the front of the output; answers how long it is.
+pub(crate) fn on_end(p: Progress, out: &mut [u8]) -> usize
+    requires { ⌜ endRoom ≤ length (now out) ⌝ }
+    ensures { λ r. ⌜ (r ≡ length (endOf p)) × (now (out .exit) ≡ sets (now (out .entry)) 0 (endOf p)) ⌝ }
+{
+    let stage = p.stage;
+    let refusal = end_refusal(stage);
+    put_end(out, p.done, refusal)
+}

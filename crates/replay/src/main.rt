@@ -1,0 +1,74 @@
+// The replay program: a settings line and data rows on standard input, changes and the end line on standard output.
+use files::Fed;
+use files::Replay;
+use libc::STDIN_FILENO;
+use libc::STDOUT_FILENO;
+ghost use mathlib.Core.Path.{_≡_};
+ghost use mathlib.Core.Bool.{true};
+ghost use Prim.Native.Nat.{_+_, _≤_};
+ghost use lib.ListN.{length};
+ghost use Rattle.files.specs.Portions.{Sound};
+
+// The state after a portion; whether there is nothing left to read, and whether a call of the system failed.
+struct Turn {
+    state: Replay,
+    over: bool,
+    failed: bool,
+}
+
+// An output with 45 bytes more than the portion has room for all that is written: every portion is taken.
+fn take_portion(state: Replay, portion: &[u8], out: &mut [u8]) -> Fed
+    requires { ⌜ (Sound state) × (length (now portion) + 45 ≤ length (now out)) ⌝ }
+    ensures { λ r. ⌜ (r .taken ≡ true) × (Sound (r .state)) × (r .written ≤ length (now (out .exit))) ⌝ }
+{
+    files::feed(state, portion, out)
+}
+
+// Reads a portion of at most 64 KiB and writes what it gives.
+fn read_portion(state: Replay) -> Turn
+    requires { ⌜ Sound state ⌝ }
+    ensures { λ r. ⌜ Sound (r .state) ⌝ }
+{
+    let mut portion = [0u8; 65536];
+    let mut out = [0u8; 65581];
+    let got = libc::read(STDIN_FILENO, &mut portion);
+    if got <= 0 {
+        return Turn {
+            state,
+            over: true,
+            failed: got < 0,
+        };
+    }
+    let n = io::count(got, &portion);
+    let t = take_portion(state, &portion[..n], &mut out);
+    let w = t.written;
+    let put = io::write_all(STDOUT_FILENO, &out[..w]);
+    let after = t.state;
+    let over = files::has_stopped(after);
+    Turn {
+        state: after,
+        over,
+        failed: !put,
+    }
+}
+
+fn main() {
+    let mut state = Replay::fresh();
+    // A program must be seen to end. No input has so many portions.
+    let mut portions = u64::MAX;
+    while portions > 0 {
+        let t = read_portion(state);
+        let after = t.state;
+        state = after;
+        if t.failed {
+            return;
+        }
+        if t.over {
+            break;
+        }
+        portions -= 1;
+    }
+    let mut out = [0u8; 26];
+    let w = files::finish(state, &mut out);
+    io::write_all(STDOUT_FILENO, &out[..w]);
+}

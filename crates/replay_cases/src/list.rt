@@ -1,0 +1,63 @@
+// A list of cases, each `name:bytes;`.
+use crate::line::say;
+use crate::readers::row;
+use crate::readers::settings_line;
+use crate::run::replayed;
+ghost use Prim.Native.Nat.{_≤_, _<_};
+ghost use lib.ListN.{length};
+
+// What is done with the bytes of a case; of a row, with the number of the last one.
+pub enum Kind {
+    Replay,
+    Row(u32),
+    SettingsLine,
+}
+
+// The first place of a mark from a place on, or the end.
+fn find(text: &[u8], from: usize, mark: u8) -> usize
+    requires { ⌜ from ≤ length (now text) ⌝ }
+    ensures { λ r. ⌜ (from ≤ r) × (r ≤ length (now (text .entry))) ⌝ }
+{
+    let mut at = from;
+    while at < text.len() {
+        if text[at] == mark {
+            return at;
+        }
+        at += 1;
+    }
+    at
+}
+
+fn run(kind: Kind, name: &[u8], bytes: &[u8]) {
+    say(name);
+    match kind {
+        Kind::Replay => replayed(bytes),
+        Kind::Row(last) => row(bytes, last),
+        Kind::SettingsLine => settings_line(bytes),
+    }
+}
+
+// Runs the case that begins at a place, and answers where the next begins.
+fn run_at(kind: Kind, list: &[u8], at: usize) -> usize
+    requires { ⌜ at < length (now list) ⌝ }
+    ensures { λ r. ⌜ (at < r) × (r ≤ length (now (list .entry))) ⌝ }
+{
+    let colon = find(list, at, b':');
+    if colon == list.len() {
+        return colon;
+    }
+    let start = colon + 1;
+    let end = find(list, start, b';');
+    run(kind, &list[at..colon], &list[start..end]);
+    if end == list.len() {
+        return end;
+    }
+    end + 1
+}
+
+pub(crate) fn each(kind: Kind, list: &[u8]) {
+    let mut at = 0;
+    while at < list.len() {
+        at = run_at(kind, list, at);
+    }
+}
