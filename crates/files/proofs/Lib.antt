@@ -14,3 +14,5 @@ pub mod FeedLaws
 pub mod AnswerLaws
 pub mod InputLaws
 pub mod ReplayLaws
+pub mod NeverRefused
+pub mod AnswerNumbers

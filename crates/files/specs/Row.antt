@@ -31,3 +31,8 @@ rowRefusal s last =
 -- what the reader of rows answers
 unfoldable pub rowAnswer : List ℕ → ℕ → RowRead
 rowAnswer s last = cond (eqb (rowRefusal s last) 0) (Accepted (rowOf (numbersOf s))) (Refused (rowRefusal s last))
+
+-- the paper's number for each case of the answer
+abbrev pub rowNumber : RowRead → ℕ
+rowNumber (Accepted row) = 0
+rowNumber (Refused n) = n

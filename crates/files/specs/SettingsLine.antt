@@ -34,3 +34,8 @@ settingsLineRefusal s = cond (rightShape settingsWidths s) (settingsRefusal (set
 unfoldable pub settingsLineAnswer : List ℕ → SettingsRead
 settingsLineAnswer s =
     cond (eqb (settingsLineRefusal s) 0) (Accepted (settingsOf (numbersOf s))) (Refused (settingsLineRefusal s))
+
+-- the paper's number for each case of the answer
+abbrev pub settingsLineNumber : SettingsRead → ℕ
+settingsLineNumber (Accepted settings) = 0
+settingsLineNumber (Refused n) = n

@@ -12,7 +12,7 @@ use Rattle.phase.specs.Jump.{jumpLimit, jumpRefusal, jumpOf, refusedJump
 use Rattle.phase.specs.Operation.{kindOf}
 use Rattle.phase.specs.Pace.{paceOf, Ready}
 use Rattle.phase.specs.Refusals.{firstFailed}
-use Rattle.phase.specs.Settings.{InRange, inRange, settingsChecks, tripLevel}
+use Rattle.phase.specs.Settings.{InRange, inRange, settingsChecks, settingsRefusal, tripLevel}
 use Rattle.phase.specs.State.{runLimit, valid, validCounts, validFor}
 use Rattle.phase.specs.Tick.{tickRefusal, tickOf, refusedTick, tickAnswer}
 
@@ -61,6 +61,10 @@ settings-passed settings rest e =
       },
       c7 .1,
     )
+
+pub accepted-settings : (settings : Settings) → settingsRefusal settings ≡ 0 → firstFailed (settingsChecks settings) 0 ≡ 0
+unfolding settingsRefusal
+accepted-settings settings e = e
 
 pub ready : (settings : Settings) (state : PhaseState) (g : ℕ) → InRange settings → valid settings state ≡ true → Ready settings (paceOf settings g) state
 unfolding valid paceOf
