@@ -21,10 +21,10 @@ sum-down-after-requires : tie.Need-sum-down-after-requires
 sum-down-after-requires c κs = search needs
 
 returns : tie.Need-returns
-returns c = rw (sym (c .before .before .before .is-started .ensures) ∙ c .before .before .if1 .taken) (cc)
+returns c = rw (sym (c .before .before .before .is-started .ensures) ∙ c .before .before .if1 .taken) (rw (c .count-after .ensures, c .before .sum-up-after .ensures))
 
 returns-2 : tie.Need-returns-2
-returns-2 c = rw (sym (c .before .before .before .is-started .ensures) ∙ c .before .before .if1 .left) (cc)
+returns-2 c = rw (sym (c .before .before .before .is-started .ensures) ∙ c .before .before .if1 .left) (rw (c .sum-down-after .ensures, c .before .count-after2 .ensures))
 
 pub moved-after-spec : {M : Type 1} → statement M
 moved-after-spec =

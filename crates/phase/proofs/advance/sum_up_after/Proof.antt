@@ -43,10 +43,10 @@ returns-2 : tie.Need-returns-2
 returns-2 c = search needs
 
 returns-3 : tie.Need-returns-3
-returns-3 c = rw (c .before .before .enum-told3 .given .1) (cc (c .before .before .before .before .pre .0 .gain))
+returns-3 c = rw (c .before .before .enum-told3 .given .1) (rw (c .filled .ensures, c .before .trip-level .ensures, c .before .before .before .before .pre .0 .gain))
 
 returns-4 : tie.Need-returns-4
-returns-4 c = rw (c .before .before .enum-told4 .given .1) (cc (c .before .before .before .before .pre .0 .gain))
+returns-4 c = rw (c .before .before .enum-told4 .given .1) (rw (c .filled2 .ensures, c .before .trip-level2 .ensures, c .before .before .before .before .pre .0 .gain))
 
 pub sum-up-after-spec : {M : Type 1} → statement M
 sum-up-after-spec =

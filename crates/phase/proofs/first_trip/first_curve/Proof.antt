@@ -19,7 +19,7 @@ first-full-requires c κs =
     (omega (arith, c .trip-level .ensures, level-small (a .settings) (r .range)), gain-small (a .settings) (a .pace) (a .state) r)
 
 returns : tie.Need-returns
-returns c = cc (c .before .before .before .pre .gain)
+returns c = rw (c .first-full .ensures, c .before .trip-level .ensures, c .before .before .wait-for .ensures, c .before .before .before .pre .gain)
 
 pub first-curve-spec : {M : Type 1} → statement M
 first-curve-spec =

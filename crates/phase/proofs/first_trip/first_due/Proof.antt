@@ -32,7 +32,7 @@ returns : tie.Need-returns
 returns c = rw (c .enum-told .given .1)
 
 returns-2 : tie.Need-returns-2
-returns-2 c = rw (c .before .before .enum-told2 .given .1) (cc)
+returns-2 c = rw (c .before .before .enum-told2 .given .1) (rw (c .one-of .ensures, c .before .wait-for .ensures))
 
 returns-3 : tie.Need-returns-3
 returns-3 c = rw (c .before .enum-told3 .given .1) (c .first-curve .ensures)

@@ -5,6 +5,8 @@ use borrow.Author.Needs.{needs}
 use Rattle.phase.proofs.Accepted.{ready, jump-passed, jump-accepted, jump-refused}
 use Rattle.phase.specs.Jump.{jumpOf, jumpRefusal}
 use Rattle.phase.specs.Pace.{paceOf}
+use Rattle.phase.specs.Refusals.{firstFailed}
+use Rattle.phase.specs.Tick.{tickChecks}
 use Rattle.phase.specs.declared.pace.Pace.{Pace}
 use Rattle.phase.proofs.jump.jump.Statement.{statement}
 use Rattle.phase.proofs.jump.jump.Tie as tie
@@ -19,7 +21,8 @@ returns : tie.Need-returns
 unfolding jumpRefusal
 returns c =
     let a = c .before .before .before .args in
-    let e : c .before .refusal-then .result ≡ jumpRefusal (a .settings) (a .state) (a .count) = cc in
+    let e : c .before .refusal-then .result ≡ jumpRefusal (a .settings) (a .state) (a .count)
+    = c .before .refusal-then .ensures ∙ ap (λ n. firstFailed (tickChecks (a .settings) (a .state)) n) (c .before .before .pick .ensures) in
     sym (jump-refused (a .settings) (a .state) (a .g) (a .count) _ e (c .if1 .taken))
 
 pace-of-requires : tie.Need-pace-of-requires
@@ -29,7 +32,8 @@ jump-ready-requires : tie.Need-jump-ready-requires
 unfolding jumpRefusal
 jump-ready-requires c κs =
     let a = c .before .before .before .before .args in
-    let e : c .before .before .refusal-then .result ≡ jumpRefusal (a .settings) (a .state) (a .count) = cc in
+    let e : c .before .before .refusal-then .result ≡ jumpRefusal (a .settings) (a .state) (a .count)
+    = c .before .before .refusal-then .ensures ∙ ap (λ n. firstFailed (tickChecks (a .settings) (a .state)) n) (c .before .before .before .pick .ensures) in
     let p = jump-passed (a .settings) (a .state) (a .count) (sym e ∙ c .before .if1 .left) in
     (rw (c .pace-of .ensures) (ready (a .settings) (a .state) (a .g) (p .0) (p .1)), p .2)
 
@@ -37,7 +41,8 @@ returns-2 : tie.Need-returns-2
 unfolding paceOf jumpRefusal
 returns-2 c =
     let a = c .before .before .before .before .before .args in
-    let e : c .before .before .before .refusal-then .result ≡ jumpRefusal (a .settings) (a .state) (a .count) = cc in
+    let e : c .before .before .before .refusal-then .result ≡ jumpRefusal (a .settings) (a .state) (a .count)
+    = c .before .before .before .refusal-then .ensures ∙ ap (λ n. firstFailed (tickChecks (a .settings) (a .state)) n) (c .before .before .before .before .pick .ensures) in
     c .jump-ready .ensures
     ∙ ap (λ (pace : Pace). jumpOf (a .settings) (a .state) (pace .sample) (a .count)) (c .before .pace-of .ensures)
     ∙ sym (jump-accepted (a .settings) (a .state) (a .g) (a .count) (sym e ∙ c .before .before .if1 .left))

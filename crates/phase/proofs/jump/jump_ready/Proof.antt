@@ -29,7 +29,7 @@ returns-2 : tie.Need-returns-2
 returns-2 c =
     let a = c .before .before .before .before .before .args in
     let g = a .pace .sample in
-    cc (ticks-closed (a .settings) g (a .count) (a .state) (omega arith), first-trip-closed (a .settings) g (a .count) (a .state) (c .before .before .before .before .before .pre .0 .range))
+    rw (c .trip-tick .ensures, c .before .first-trip .ensures, c .before .before .advance .ensures, c .before .before .before .kind-of .ensures, ticks-closed (a .settings) g (a .count) (a .state) (omega arith), first-trip-closed (a .settings) g (a .count) (a .state) (c .before .before .before .before .before .pre .0 .range))
 
 pub jump-ready-spec : {M : Type 1} → statement M
 jump-ready-spec =

@@ -16,7 +16,7 @@ loss-of-requires c κs = search needs
 
 returns : tie.Need-returns
 unfolding paceOf
-returns c = cc
+returns c = rw (c .loss-of .ensures, c .before .gain-of .ensures, c .before .before .ratio-of .ensures)
 
 pub pace-of-spec : {M : Type 1} → statement M
 pace-of-spec = tie.close (tie.spec ratio-of-requires gain-of-requires loss-of-requires returns)

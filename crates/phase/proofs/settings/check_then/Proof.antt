@@ -47,7 +47,7 @@ pick-requires-7 : tie.Need-pick-requires-7
 pick-requires-7 c κs = search needs
 
 returns : tie.Need-returns
-returns c = cc
+returns c = rw (c .pick7 .ensures, c .before .in-range7 .ensures, c .before .before .pick6 .ensures, c .before .before .before .in-range6 .ensures, c .before .before .before .before .pick5 .ensures, c .before .before .before .before .before .in-range5 .ensures, c .before .before .before .before .before .before .pick4 .ensures, c .before .before .before .before .before .before .before .in-range4 .ensures, c .before .before .before .before .before .before .before .before .pick3 .ensures, c .before .before .before .before .before .before .before .before .before .in-range3 .ensures, c .before .before .before .before .before .before .before .before .before .before .pick2 .ensures, c .before .before .before .before .before .before .before .before .before .before .before .in-range2 .ensures, c .before .before .before .before .before .before .before .before .before .before .before .before .pick .ensures, c .before .before .before .before .before .before .before .before .before .before .before .before .before .in-range .ensures)
 
 pub check-then-spec : {M : Type 1} → statement M
 check-then-spec =

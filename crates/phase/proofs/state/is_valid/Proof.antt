@@ -34,7 +34,7 @@ unfolding valid
 returns-2 c =
     let a = c .before .before .before .before .before .before .before .args in
     let within : a .state .sum ≤ tripLevel (a .settings) = omega (arith, c .before .before .before .before .before .before .trip-level .ensures) in
-    rw (le-leb (a .state .sum) (tripLevel (a .settings)) within, sym (c .before .before .before .valid-counts .ensures) ∙ c .before .before .if2 .taken) (cc)
+    rw (le-leb (a .state .sum) (tripLevel (a .settings)) within, sym (c .before .before .before .valid-counts .ensures) ∙ c .before .before .if2 .taken) (rw (c .valid-for .ensures, c .before .kind-of .ensures))
 
 returns-3 : tie.Need-returns-3
 unfolding valid

@@ -35,10 +35,10 @@ returns-2 : tie.Need-returns-2
 returns-2 c = rw (c .before .before .enum-told2 .given .1)
 
 returns-3 : tie.Need-returns-3
-returns-3 c = rw (c .before .before .before .before .before .enum-told3 .given .1) (cc)
+returns-3 c = rw (c .before .before .before .before .before .enum-told3 .given .1) (rw (c .both .ensures, c .before .before .before .before .trip-level .ensures))
 
 returns-4 : tie.Need-returns-4
-returns-4 c = rw (c .before .before .before .before .before .enum-told4 .given .1) (cc)
+returns-4 c = rw (c .before .before .before .before .before .enum-told4 .given .1) (rw (c .both2 .ensures, c .before .before .before .before .trip-level2 .ensures))
 
 pub is-due-spec : {M : Type 1} → statement M
 is-due-spec =

@@ -31,7 +31,7 @@ returns : tie.Need-returns
 unfolding phaseStart phaseTrip
 returns c =
     let a = c .before .before .before .before .before .before .before .before .args in
-    cc (next-closed (a .settings) (a .pace .sample) (a .state))
+    rw (c .both2 .ensures, c .before .is-due .ensures, c .before .before .both .ensures, c .before .before .before .before .start-by .ensures, c .before .before .before .before .before .advance .ensures, c .before .before .before .before .before .before .is-started .ensures, c .before .before .before .before .before .before .before .kind-of .ensures, next-closed (a .settings) (a .pace .sample) (a .state))
 
 pub tick-ready-spec : {M : Type 1} → statement M
 tick-ready-spec =

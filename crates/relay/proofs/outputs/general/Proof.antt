@@ -14,7 +14,7 @@ both-requires : tie.Need-both-requires
 both-requires c κs = search needs
 
 returns : tie.Need-returns
-returns c = cc
+returns c = rw (c .both .ensures, c .before .either2 .ensures, c .before .before .either .ensures)
 
 pub general-spec : {M : Type 1} → statement M
 general-spec = tie.close (tie.spec either-requires either-requires-2 both-requires returns)

@@ -34,7 +34,7 @@ add-result-3 c = search needs
 
 returns : tie.Need-returns
 unfolding outputByte
-returns c = cc
+returns c = rw (c .bit2 .ensures .0, c .before .bit .ensures .0, c .before .before .trip-bits .ensures .0, c .before .before .before .start-bits .ensures .0, c .before .before .before .before .general2 .ensures, c .before .before .before .before .before .general .ensures)
 
 pub output-byte-spec : {M : Type 1} → statement M
 output-byte-spec =

@@ -31,7 +31,7 @@ both-requires-2 c κs = search needs
 
 returns : tie.Need-returns
 unfolding validRelay
-returns c = cc
+returns c = rw (c .both2 .ensures, c .before .both .ensures, c .before .before .is-valid3 .ensures, c .before .before .before .before .is-valid2 .ensures, c .before .before .before .before .before .before .is-valid .ensures)
 
 pub all-valid-spec : {M : Type 1} → statement M
 all-valid-spec =

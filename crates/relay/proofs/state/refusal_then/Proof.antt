@@ -14,7 +14,7 @@ check-then-requires : tie.Need-check-then-requires
 check-then-requires c κs = search needs
 
 returns : tie.Need-returns
-returns c = cc
+returns c = rw (c .check-then .ensures, c .before .pick .ensures, c .before .before .all-valid .ensures)
 
 pub refusal-then-spec : {M : Type 1} → statement M
 refusal-then-spec =

@@ -5,7 +5,8 @@ use mathlib.Core.Path.{_≡_, sym, _∙_, ap}
 use borrow.Author.Needs.{needs}
 use lib.Dec.{leb}
 use Rattle.relay.proofs.RelayLaws.{paces-are-paced, relay-passed, tick-accepted, tick-refused}
-use Rattle.relay.specs.Tick.{tickRefusal}
+use Rattle.phase.specs.Refusals.{firstFailed}
+use Rattle.relay.specs.Tick.{relayChecks, tickRefusal}
 use Rattle.relay.specs.declared.step.Stepped.{Stepped}
 use Rattle.relay.specs.declared.tick.Ticked.{Ticked}
 use Rattle.relay.proofs.tick.tick.Statement.{statement}
@@ -21,7 +22,8 @@ returns : tie.Need-returns
 unfolding tickRefusal
 returns c =
     let a = c .before .before .before .args in
-    let e : c .before .refusal-then .result ≡ tickRefusal (a .settings) (a .state) (a .block) = cc in
+    let e : c .before .refusal-then .result ≡ tickRefusal (a .settings) (a .state) (a .block)
+    = c .before .refusal-then .ensures ∙ ap (λ n. firstFailed (relayChecks (a .settings) (a .state)) n) (c .before .before .pick .ensures) in
     sym (tick-refused (a .settings) (a .state) (a .l1) (a .l2) (a .l3) (a .block) _ e (c .if1 .taken))
 
 paces-of-requires : tie.Need-paces-of-requires
@@ -31,7 +33,8 @@ step-requires : tie.Need-step-requires
 unfolding tickRefusal
 step-requires c κs =
     let a = c .before .before .before .before .args in
-    let e : c .before .before .refusal-then .result ≡ tickRefusal (a .settings) (a .state) (a .block) = cc in
+    let e : c .before .before .refusal-then .result ≡ tickRefusal (a .settings) (a .state) (a .block)
+    = c .before .before .refusal-then .ensures ∙ ap (λ n. firstFailed (relayChecks (a .settings) (a .state)) n) (c .before .before .before .pick .ensures) in
     let p = relay-passed (a .settings) (a .state) (cond (leb (a .block) 1) 0 14) (sym e ∙ c .before .if1 .left) in
     (p .0, p .1, rw (c .paces-of .ensures) (paces-are-paced (a .settings) (a .l1) (a .l2) (a .l3)))
 
@@ -39,7 +42,8 @@ returns-2 : tie.Need-returns-2
 unfolding tickRefusal
 returns-2 c =
     let a = c .before .before .before .before .before .before .args in
-    let e : c .before .before .before .before .refusal-then .result ≡ tickRefusal (a .settings) (a .state) (a .block) = cc in
+    let e : c .before .before .before .before .refusal-then .result ≡ tickRefusal (a .settings) (a .state) (a .block)
+    = c .before .before .before .before .refusal-then .ensures ∙ ap (λ n. firstFailed (relayChecks (a .settings) (a .state)) n) (c .before .before .before .before .before .pick .ensures) in
     ap (λ (s : Stepped). ticked s) (c .before .step .ensures)
     ∙ sym (tick-accepted (a .settings) (a .state) (a .l1) (a .l2) (a .l3) (a .block) (sym e ∙ c .before .before .before .if1 .left))
   where

@@ -18,7 +18,7 @@ off-requires-2 : tie.Need-off-requires-2
 off-requires-2 c κs = search needs
 
 returns-2 : tie.Need-returns-2
-returns-2 c = rw (eq-eqb _ 0 (c .before .before .if1 .left), c .before .if2 .taken) (cc)
+returns-2 c = rw (eq-eqb _ 0 (c .before .before .if1 .left), c .before .if2 .taken) (rw (c .off2 .ensures, c .before .before .before .fresh .ensures))
 
 returns-3 : tie.Need-returns-3
 returns-3 c = rw (eq-eqb _ 0 (c .before .if1 .left), c .if2 .left)

@@ -16,7 +16,7 @@ answer-requires c κs = search needs
 
 returns : tie.Need-returns
 unfolding timerAnswer
-returns c = cc
+returns c = rw (c .answer .ensures, c .before .refusal-of .ensures, c .before .before .flip-flop-rule .ensures)
 
 pub flip-flop-spec : {M : Type 1} → statement M
 flip-flop-spec =

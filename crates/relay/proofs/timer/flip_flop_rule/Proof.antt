@@ -17,7 +17,7 @@ accepted-requires : tie.Need-accepted-requires
 accepted-requires c κs = search needs
 
 returns : tie.Need-returns
-returns c = cc
+returns c = rw (c .accepted .ensures, c .before .either2 .ensures, c .before .before .either .ensures, c .before .before .before .counted .ensures)
 
 pub flip-flop-rule-spec : {M : Type 1} → statement M
 flip-flop-rule-spec =

@@ -13,7 +13,7 @@ held-requires : tie.Need-held-requires
 held-requires c κs = search needs
 
 returns : tie.Need-returns
-returns c = rw (lt-ltb 0 _ (c .before .before .if1 .taken)) (cc)
+returns c = rw (lt-ltb 0 _ (c .before .before .if1 .taken)) (rw (c .held .ensures, c .before .fallen .ensures))
 
 fires-requires : tie.Need-fires-requires
 fires-requires c κs = search needs
@@ -26,7 +26,7 @@ held-requires-2 c κs = search needs
 
 returns-2 : tie.Need-returns-2
 returns-2 c =
-    rw (le-ltb 0 _ (c .before .before .before .before .if1 .left), sym (c .before .before .before .fires .ensures) ∙ c .before .before .if2 .taken) (cc)
+    rw (le-ltb 0 _ (c .before .before .before .before .if1 .left), sym (c .before .before .before .fires .ensures) ∙ c .before .before .if2 .taken) (rw (c .held2 .ensures, c .before .fallen2 .ensures))
 
 held-requires-3 : tie.Need-held-requires-3
 held-requires-3 c κs = search needs

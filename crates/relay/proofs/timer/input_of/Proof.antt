@@ -38,7 +38,7 @@ returns-3 : tie.Need-returns-3
 returns-3 c = rw (c .before .enum-told3 .given .1) (c .both .ensures)
 
 returns-4 : tie.Need-returns-4
-returns-4 c = rw (c .before .before .enum-told4 .given .1) (cc)
+returns-4 c = rw (c .before .before .enum-told4 .given .1) (rw (c .both2 .ensures, c .before .either2 .ensures))
 
 pub input-of-spec : {M : Type 1} → statement M
 input-of-spec =

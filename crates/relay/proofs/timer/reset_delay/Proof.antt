@@ -19,7 +19,7 @@ answer-requires c κs = search needs
 
 returns : tie.Need-returns
 unfolding timerAnswer
-returns c = cc
+returns c = rw (c .answer .ensures, c .before .refusal-of .ensures, c .before .before .reset-delay-rule .ensures, c .before .before .before .input-of .ensures)
 
 pub reset-delay-spec : {M : Type 1} → statement M
 reset-delay-spec =

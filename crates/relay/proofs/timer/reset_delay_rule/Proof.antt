@@ -17,7 +17,7 @@ with-count-requires-2 : tie.Need-with-count-requires-2
 with-count-requires-2 c κs = search needs
 
 returns-2 : tie.Need-returns-2
-returns-2 c = cc
+returns-2 c = rw (c .with-count2 .ensures, c .before .before .fallen .ensures, c .before .before .before .if1 .left)
 
 pub reset-delay-rule-spec : {M : Type 1} → statement M
 reset-delay-rule-spec =

@@ -11,7 +11,7 @@ with-count-requires : tie.Need-with-count-requires
 with-count-requires c κs = search needs
 
 returns : tie.Need-returns
-returns c = cc
+returns c = rw (c .with-count .ensures, c .before .counted .ensures)
 
 pub set-delay-rule-spec : {M : Type 1} → statement M
 set-delay-rule-spec = tie.close (tie.spec counted-requires with-count-requires returns)

@@ -10,7 +10,7 @@ clear-requires c κs = search needs
 
 returns : tie.Need-returns
 unfolding clearRelay
-returns c = cc
+returns c = rw (c .clear .ensures)
 
 pub clear-spec : {M : Type 1} → statement M
 clear-spec = tie.close (tie.spec clear-requires returns)
