@@ -32,8 +32,8 @@ abbrev example : Shown → Shown → Example
 example given paper = record { given = given; paper = paper }
 
 -- minimum delay 40, start only 0; the start current is 200, and the others play no part
-abbrev settingsOf : ℕ → ℕ → Settings
-settingsOf operation multiplier =
+abbrev classSettings : ℕ → ℕ → Settings
+classSettings operation multiplier =
     record {
       operation = operation;
       «start_current» = 200;
@@ -61,10 +61,10 @@ examples =
     ∷ example (number (operateTime 9 300)) (number 3646700)
     ∷ example (number (operateTime 9 600)) (number 927415)
     ∷ example (number (resetTime 9 50)) (number 38800000)
-    ∷ example (number (gainAt (settingsOf 3 100) (sampleAt 200))) (number 7407407)
-    ∷ example (trip (firstTripOf (settingsOf 3 100) 200 13501)) (trip (At 13501))
-    ∷ example (trip (firstTripOf (settingsOf 3 100) 200 13500)) (trip None)
-    ∷ example (trip (firstTripOf (settingsOf 4 5) 2000 60000)) (trip (At 40))
+    ∷ example (number (gainAt (classSettings 3 100) (sampleAt 200))) (number 7407407)
+    ∷ example (trip (firstTripOf (classSettings 3 100) 200 13501)) (trip (At 13501))
+    ∷ example (trip (firstTripOf (classSettings 3 100) 200 13500)) (trip None)
+    ∷ example (trip (firstTripOf (classSettings 4 5) 2000 60000)) (trip (At 40))
     ∷ []
 
 abbrev AllAgree : List Example → Type 0
@@ -76,4 +76,4 @@ closed settings m count at accepted e = ap trip (jump-trip-closed settings clear
 
 class-examples : AllAgree examples
 unfolding examples operateTime resetTime constantsOf roundedUp gainOf ratioOf jumpRefusal valid kindOf started
-class-examples = (refl, (refl, (refl, (refl, (refl, (refl, (refl, (refl, (closed (settingsOf 3 100) 200 13501 (At 13501) refl refl, (closed (settingsOf 3 100) 200 13500 None refl refl, (closed (settingsOf 4 5) 2000 60000 (At 40) refl refl, tt)))))))))))
+class-examples = (refl, (refl, (refl, (refl, (refl, (refl, (refl, (refl, (closed (classSettings 3 100) 200 13501 (At 13501) refl refl, (closed (classSettings 3 100) 200 13500 None refl refl, (closed (classSettings 4 5) 2000 60000 (At 40) refl refl, tt)))))))))))

@@ -1,11 +1,11 @@
 // The class examples on timers: what a delay of 0 does.
 use crate::line::say;
 use crate::line::verdict;
-use relay::timer::Combination;
-use relay::timer::Inputs;
-use relay::timer::TimerState;
-use relay::timer::hold;
-use relay::timer::set_delay;
+use timer::Combination;
+use timer::Inputs;
+use timer::TimerState;
+use timer::hold;
+use timer::set_delay;
 
 fn plain(on: bool) -> Inputs {
     Inputs {

@@ -10,6 +10,7 @@ use lib.Dec.{ltb}
 use lib.ListN.{length, getD, set, length-append}
 use lib.Seq.{sets}
 use borrow.Author.Tests.{le-leb, lt-ltb, le-ltb, ltb-true, ltb-false}
+use Rattle.text.proofs.StoreLaws.{sets-append}
 use Rattle.files.proofs.Cases.{by-cond, and-left, and-right}
 use Rattle.files.specs.Number.{allDigits}
 use Rattle.files.specs.Number.{isDigit, leading, valueFrom, valueOf, decimalIn, decimal}
@@ -66,10 +67,6 @@ pub decimal-back : (v : ℕ) → v < 10000000000 → valueOf (decimal v) ≡ v
 decimal-back v h = value-decimal 9 v (omega arith)
 
 -- ---- stores one after the other
-
-pub sets-append : (s : List ℕ) (at : ℕ) (xs ys : List ℕ) → sets s at (xs ++ ys) ≡ sets (sets s at xs) (at + length xs) ys
-sets-append s at [] ys = let e : at + 0 ≡ at = omega arith in rw e
-sets-append s at (x ∷ xs) ys = let e : at + suc (length xs) ≡ suc at + length xs = omega arith in rw e (sets-append (set s at x) (suc at) xs ys)
 
 -- one digit more, at the place after those before it
 pub put-more : (s : List ℕ) (at v : ℕ) → 10 ≤ v → v < 10000000000

@@ -16,7 +16,7 @@ use Rattle.files.specs.declared.replay.Replay.{Replay}
 use Rattle.files.specs.Line.{isLf, endsCrLf}
 use Rattle.files.specs.Replay.{notedOf, afterLine, wroteLine}
 use Rattle.files.specs.Portions.{nextLine, closes, refuse, stepIf, wroteIf, stepOf, wroteOf, fed, writes, fedBy}
-use Rattle.files.proofs.DecimalLaws.{sets-append}
+use Rattle.text.proofs.StoreLaws.{sets-append}
 use Rattle.files.proofs.ShapeLaws.{ends-two}
 use Rattle.files.proofs.PortionLaws.{next-held}
 

@@ -10,8 +10,8 @@ use lib.Dec.{leb, eqb}
 use Rattle.phase.specs.declared.settings.Settings.{Settings}
 use Rattle.phase.specs.Settings.{settingsRefusal}
 use Rattle.relay.specs.State.{clearRelay, validRelay}
-use Rattle.relay.specs.declared.tick.Ticked.{Ticked}
-use Rattle.relay.specs.Tick.{tickRefusal}
+use Rattle.relay.specs.declared.tick.RelayTicked.{RelayTicked}
+use Rattle.relay.specs.Tick.{relayTickRefusal}
 use Rattle.relay.proofs.RelayLaws.{clear-relay-is-valid, tick-allowed, tick-accepted, allowed-keeps-valid}
 use Rattle.files.specs.declared.progress.Progress.{Progress}
 use Rattle.files.specs.declared.progress.Stage.{Stage}
@@ -24,7 +24,7 @@ use Rattle.files.specs.declared.settings_line.SettingsRead.the-variants 
 use Rattle.files.specs.Line.{rightShape, numbersOf}
 use Rattle.files.specs.Replay.{freshProgress, opened, ticked, stepped, afterBy, afterLine}
 use Rattle.files.specs.Row.{rowWidths, rowOf, rowRefusal, rowAnswer}
-use Rattle.files.specs.SettingsLine.{settingsWidths, settingsOf, settingsLineRefusal, settingsLineAnswer}
+use Rattle.files.specs.SettingsLine.{settingsWidths, settingsIn, settingsLineRefusal, settingsLineAnswer}
 
 -- ---- what an accepted line tells
 
@@ -42,17 +42,17 @@ shaped : (a : Bool) (n : ℕ) → cond a n 12 ≡ 0 → n ≡ 0
 shaped true n e = e
 shaped false n e = absurd (omega arith)
 
-checked : (s : List ℕ) → settingsLineRefusal s ≡ 0 → settingsRefusal (settingsOf (numbersOf s)) ≡ 0
+checked : (s : List ℕ) → settingsLineRefusal s ≡ 0 → settingsRefusal (settingsIn (numbersOf s)) ≡ 0
 unfolding settingsLineRefusal
-checked s e = shaped (rightShape settingsWidths s) (settingsRefusal (settingsOf (numbersOf s))) e
+checked s e = shaped (rightShape settingsWidths s) (settingsRefusal (settingsIn (numbersOf s))) e
 
 accepted-line : (s : List ℕ) (x : Settings) → settingsLineAnswer s ≡ settings-line.Accepted x → settingsRefusal x ≡ 0
 unfolding settingsLineAnswer
 accepted-line s x = go (eqb (settingsLineRefusal s) 0) refl
   where
-    go : (b : Bool) → eqb (settingsLineRefusal s) 0 ≡ b → cond b (settings-line.Accepted (settingsOf (numbersOf s))) (settings-line.Refused (settingsLineRefusal s)) ≡ settings-line.Accepted x → settingsRefusal x ≡ 0
+    go : (b : Bool) → eqb (settingsLineRefusal s) 0 ≡ b → cond b (settings-line.Accepted (settingsIn (numbersOf s))) (settings-line.Refused (settingsLineRefusal s)) ≡ settings-line.Accepted x → settingsRefusal x ≡ 0
     go true q e =
-        let same : settingsOf (numbersOf s) ≡ x = cc in
+        let same : settingsIn (numbersOf s) ≡ x = cc in
         rw (← same) (checked s (eqb-true (settingsLineRefusal s) 0 q))
     go false q e = let z : _≡_ {A = ℕ} 0 1 = cc in absurd (omega arith)
 
@@ -68,7 +68,7 @@ opened-right : (p : Progress) (answer : SettingsRead) → p .relay ≡ clearRela
 opened-right p (settings-line.Accepted x) e h = (h x refl, rw e (clear-relay-is-valid x))
 opened-right p (settings-line.Refused n) e h = tt
 
-tick-right : (p : Progress) (x : Row) → Right Running p → x .block ≤ 1 → tickRefusal (p .settings) (p .relay) (x .block) ≡ 0
+tick-right : (p : Progress) (x : Row) → Right Running p → x .block ≤ 1 → relayTickRefusal (p .settings) (p .relay) (x .block) ≡ 0
 tick-right p x right h = tick-allowed (p .settings) (p .relay) (x .block) (right .0) (right .1) h
 
 stepped-right : (p : Progress) (answer : RowRead) → Right Running p → ((x : Row) → answer ≡ row.Accepted x → x .block ≤ 1) → Right (stepped p answer .stage) (stepped p answer)
@@ -95,4 +95,4 @@ pub no-tick-refused : (ls : List (List ℕ)) (l : List ℕ) (x : Row) → let p 
 no-tick-refused ls l x running e =
     let p = afterLines freshProgress ls in
     let right : Right Running p = rw running at (lines-keep freshProgress ls refl) in
-    ap (λ (t : Ticked). t .refusal) (tick-accepted (p .settings) (p .relay) (x .l1) (x .l2) (x .l3) (x .block) (tick-right p x right (accepted-block l (p .done) x e)))
+    ap (λ (t : RelayTicked). t .refusal) (tick-accepted (p .settings) (p .relay) (x .l1) (x .l2) (x .l3) (x .block) (tick-right p x right (accepted-block l (p .done) x e)))

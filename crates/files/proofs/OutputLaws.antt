@@ -9,7 +9,8 @@ use lib.ListN.{length, set, length-append}
 use lib.Seq.{sets}
 use Rattle.files.specs.Number.{decimal}
 use Rattle.files.specs.Output.{pairLine, changeLine, endLine}
-use Rattle.files.proofs.DecimalLaws.{sets-append, decimal-length, decimal-short}
+use Rattle.text.proofs.StoreLaws.{sets-append}
+use Rattle.files.proofs.DecimalLaws.{decimal-length, decimal-short}
 
 pub pair-length : (a b : ℕ) → length (pairLine a b) ≡ length (decimal a) + 1 + length (decimal b) + 1
 pair-length a b = rw (length-append, length-append) (omega arith)

@@ -6,7 +6,7 @@ use Prim.Native.Nat.{ℕ, _+_}
 use native.Mathlib.Omega.{arith}
 use lib.ListN.{length}
 use lib.Seq.{sets}
-use Rattle.relay.specs.declared.tick.Ticked.{Ticked}
+use Rattle.relay.specs.declared.tick.RelayTicked.{RelayTicked}
 use Rattle.files.specs.declared.row.Row.{Row}
 use Rattle.files.specs.declared.row.RowRead.{RowRead}
 use Rattle.files.specs.declared.row.RowRead.the-variants.{Accepted, Refused}
@@ -20,14 +20,14 @@ use Rattle.files.specs.Replay.{stopped, opened, stepped, changed, change
 
 -- ---- a row
 
-module _ (p : Progress) (a : RowRead) (x : Row) (t : Ticked) (q : a ≡ Accepted x) (e : t ≡ ticked p x) where
+module _ (p : Progress) (a : RowRead) (x : Row) (t : RelayTicked) (q : a ≡ Accepted x) (e : t ≡ ticked p x) where
   pub row-change : changed p a ≡ changeOf (p .done + 1) (t .outputs) (p .outputs)
-  row-change = ap (changed p) q ∙ ap (λ (y : Ticked). changeOf (p .done + 1) (y .outputs) (p .outputs)) (sym e)
+  row-change = ap (changed p) q ∙ ap (λ (y : RelayTicked). changeOf (p .done + 1) (y .outputs) (p .outputs)) (sym e)
 
   row-progress : stepped p a ≡ record { stage = Running; settings = p .settings; relay = t .state; done = p .done + 1; outputs = t .outputs }
   row-progress =
       ap (stepped p) q
-      ∙ ap (λ (y : Ticked). record { stage = Running; settings = p .settings; relay = y .state; done = p .done + 1; outputs = y .outputs }) (sym e)
+      ∙ ap (λ (y : RelayTicked). record { stage = Running; settings = p .settings; relay = y .state; done = p .done + 1; outputs = y .outputs }) (sym e)
 
   pub row-noted : (end at : ℕ) → end ≡ at + length (changeOf (p .done + 1) (t .outputs) (p .outputs))
       → record { progress = record { stage = Running; settings = p .settings; relay = t .state; done = p .done + 1; outputs = t .outputs }; written = end }

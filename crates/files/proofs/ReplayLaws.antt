@@ -11,7 +11,7 @@ use Rattle.files.specs.declared.settings_line.SettingsRead.{SettingsRead
 use Rattle.files.specs.declared.settings_line.SettingsRead.the-variants.{Accepted}
 use Rattle.files.specs.declared.progress.Progress.{Progress}
 use Rattle.files.specs.Line.{numbersOf, rightShape}
-use Rattle.files.specs.SettingsLine.{settingsWidths, settingsOf, settingsLineRefusal, settingsLineAnswer}
+use Rattle.files.specs.SettingsLine.{settingsWidths, settingsIn, settingsLineRefusal, settingsLineAnswer}
 use Rattle.files.specs.Output.{endLine}
 use Rattle.files.specs.Lines.{lastLine, linesFrom, linesOf}
 use Rattle.files.specs.Replay.{freshProgress, stopped, opened, afterBy, wroteBy, endRefusal, endOf, byLines, replayOf}
@@ -56,21 +56,21 @@ pub replay-of-open-line : (s : List ℕ) → 0 < length s → hasCrLf s ≡ fals
 replay-of-open-line s h k =
     replay-of-refused-settings s s [] 12 (open-input s k ∙ last-line s h) (misshapen-settings s (open-misshapen s (has-ends s k))) (λ e. omega arith)
 
-accepted-settings : (l : List ℕ) → settingsLineRefusal l ≡ 0 → settingsLineAnswer l ≡ Accepted (settingsOf (numbersOf l))
+accepted-settings : (l : List ℕ) → settingsLineRefusal l ≡ 0 → settingsLineAnswer l ≡ Accepted (settingsIn (numbersOf l))
 unfolding settingsLineAnswer
 accepted-settings l e = rw e
 
 accepted-shape : (l : List ℕ) → settingsLineRefusal l ≡ 0 → rightShape settingsWidths l ≡ true
 unfolding settingsLineRefusal
 accepted-shape l =
-    by-cond (λ (n : ℕ). n ≡ 0 → rightShape settingsWidths l ≡ true) (rightShape settingsWidths l) (settingsRefusal (settingsOf (numbersOf l))) 12
+    by-cond (λ (n : ℕ). n ≡ 0 → rightShape settingsWidths l ≡ true) (rightShape settingsWidths l) (settingsRefusal (settingsIn (numbersOf l))) 12
     (λ t e. t) (λ t e. absurd (omega arith))
 
 lines-one : (l : List ℕ) → settingsLineRefusal l ≡ 0 → linesOf l ≡ l ∷ []
 unfolding linesFrom lastLine
 lines-one l e = ap linesOf (sym (append-nil l)) ∙ line-first settingsWidths l [] (accepted-shape l e)
 
-end-running : (l : List ℕ) → byLines (opened freshProgress (Accepted (settingsOf (numbersOf l)))) [] ≡ endLine 0 0
+end-running : (l : List ℕ) → byLines (opened freshProgress (Accepted (settingsIn (numbersOf l)))) [] ≡ endLine 0 0
 unfolding byLines endRefusal
 end-running l = refl
 

@@ -11,7 +11,7 @@ use Rattle.phase.specs.Settings.{settingsRefusal}
 use Rattle.files.specs.declared.line.Line.{Line}
 use Rattle.files.specs.declared.settings_line.SettingsRead.the-variants.{Accepted, Refused}
 use Rattle.files.specs.Line.{narrow, numbersOf, lineAnswer}
-use Rattle.files.specs.SettingsLine.{settingsWidths, settingsOf, settingsLineRefusal, settingsLineAnswer}
+use Rattle.files.specs.SettingsLine.{settingsWidths, settingsIn, settingsLineRefusal, settingsLineAnswer}
 use Rattle.files.proofs.LineLaws.{line-shape, line-number}
 
 pub narrow-settings : narrow settingsWidths ≡ true
@@ -34,7 +34,7 @@ module _ (s : List ℕ) (r : Line) (e : r ≡ lineAnswer settingsWidths s) where
     pub settings-fits : (k : ℕ) → k < 7 → getD (r .numbers) k 0 < 10 ^ getD settingsWidths k 0
     settings-fits k h = rw (settings-at k h .0) (settings-at k h .1)
 
-    same : settingsOf (r .numbers) ≡ settingsOf (numbersOf s)
+    same : settingsIn (r .numbers) ≡ settingsIn (numbersOf s)
     same =
         rw (
           settings-at 0 (omega arith) .0,
@@ -46,13 +46,13 @@ module _ (s : List ℕ) (r : Line) (e : r ≡ lineAnswer settingsWidths s) where
           settings-at 6 (omega arith) .0,
         )
 
-    checked : settingsLineRefusal s ≡ settingsRefusal (settingsOf (r .numbers))
+    checked : settingsLineRefusal s ≡ settingsRefusal (settingsIn (r .numbers))
     unfolding settingsLineRefusal
     checked = rw (sym (line-shape settingsWidths s (omega arith) r e) ∙ t, same)
 
-    pub settings-checked : (n : ℕ) → n ≡ settingsRefusal (settingsOf (r .numbers)) → (n ≡ 0 → ⊥) → Refused n ≡ settingsLineAnswer s
+    pub settings-checked : (n : ℕ) → n ≡ settingsRefusal (settingsIn (r .numbers)) → (n ≡ 0 → ⊥) → Refused n ≡ settingsLineAnswer s
     settings-checked n q k = settings-refused s n (checked ∙ sym q) k
 
-    pub settings-accepted : settingsRefusal (settingsOf (r .numbers)) ≡ 0 → Accepted (settingsOf (r .numbers)) ≡ settingsLineAnswer s
+    pub settings-accepted : settingsRefusal (settingsIn (r .numbers)) ≡ 0 → Accepted (settingsIn (r .numbers)) ≡ settingsLineAnswer s
     unfolding settingsLineAnswer
     settings-accepted q = rw (checked ∙ q, same)

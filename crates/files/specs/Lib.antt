@@ -1,3 +1,4 @@
+pub mod Refusals
 pub mod Number
 pub mod Line
 pub mod Row

@@ -11,7 +11,7 @@ use Rattle.files.specs.declared.progress.Stage.the-variants.{Opening, Ru
 use Rattle.files.specs.declared.progress.Progress.{Progress}
 use Rattle.files.specs.declared.replay.Replay.{Replay}
 use Rattle.files.specs.declared.replay.Fed.{Fed}
-use Rattle.phase.specs.Refusals.{wrongShape}
+use Rattle.files.specs.Refusals.{wrongShape}
 use Rattle.files.specs.Line.{endsCrLf}
 use Rattle.files.specs.Output.{endRoom}
 use Rattle.files.specs.Replay.{freshProgress, stopped, afterLine, wroteLine, endOf}

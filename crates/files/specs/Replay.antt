@@ -5,9 +5,9 @@ use Prim.Native.Nat.{ℕ, _+_}
 use lib.Dec.{eqb}
 use lib.ListN.{length}
 use Rattle.phase.specs.declared.settings.Settings.{Settings}
-use Rattle.relay.specs.declared.tick.Ticked.{Ticked}
+use Rattle.relay.specs.declared.tick.RelayTicked.{RelayTicked}
 use Rattle.relay.specs.State.{clearRelay}
-use Rattle.relay.specs.Tick.{tickAnswer}
+use Rattle.relay.specs.Tick.{relayTickAnswer}
 use Rattle.files.specs.declared.row.Row.{Row}
 use Rattle.files.specs.declared.row.RowRead.{RowRead}
 use Rattle.files.specs.declared.row.RowRead.the-variants as row
@@ -17,7 +17,7 @@ use Rattle.files.specs.declared.progress.Stage.{Stage}
 use Rattle.files.specs.declared.progress.Stage.the-variants.{Opening, Running, Stopped}
 use Rattle.files.specs.declared.progress.Progress.{Progress}
 use Rattle.files.specs.declared.progress.Noted.{Noted}
-use Rattle.phase.specs.Refusals.{wrongShape}
+use Rattle.files.specs.Refusals.{wrongShape}
 use Rattle.files.specs.Row.{rowAnswer}
 use Rattle.files.specs.SettingsLine.{settingsLineAnswer}
 use Rattle.files.specs.Lines.{linesOf}
@@ -52,8 +52,8 @@ opened p (settings-line.Accepted x) =
 opened p (settings-line.Refused n) = stopped n p
 
 -- the tick of a row: the relay's decision on its currents and block, from the state that the rows before left
-abbrev pub ticked : Progress → Row → Ticked
-ticked p x = tickAnswer (p .settings) (p .relay) (x .l1) (x .l2) (x .l3) (x .block)
+abbrev pub ticked : Progress → Row → RelayTicked
+ticked p x = relayTickAnswer (p .settings) (p .relay) (x .l1) (x .l2) (x .l3) (x .block)
 
 -- a row, accepted or refused: only an accepted one ticks, and is done
 abbrev pub stepped : Progress → RowRead → Progress

@@ -7,7 +7,8 @@ use lib.ListN.{getD}
 use Rattle.files.specs.declared.row.Row.{Row}
 use Rattle.files.specs.declared.row.RowRead.{RowRead}
 use Rattle.files.specs.declared.row.RowRead.the-variants.{Accepted, Refused}
-use Rattle.phase.specs.Refusals.{wrongShape, wrongNumber, wrongBlock}
+use Rattle.relay.specs.Refusals.{wrongBlock}
+use Rattle.files.specs.Refusals.{wrongShape, wrongNumber}
 use Rattle.files.specs.Line.{rightShape, numbersOf}
 
 -- "number, timestamp, L1, L2, L3, block": "Digits only, at most 6, 10, 7, 7, 7 and 1 of them"

@@ -3,6 +3,7 @@ mod line;
 mod number;
 mod output;
 mod progress;
+pub mod refusals;
 mod replay;
 mod row;
 mod settings_line;

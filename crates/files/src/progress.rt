@@ -10,12 +10,12 @@ ghost use Rattle.files.specs.Replay.{freshProgress, stopped, opened, ste
 ghost use Rattle.files.specs.Portions.{refuse};
 use crate::output::put_change;
 use crate::output::put_end;
+use crate::refusals::WRONG_SHAPE;
 use crate::row::RowRead;
 use crate::row::read_row;
 use crate::settings_line::SettingsRead;
 use crate::settings_line::read_settings_line;
 use phase::Settings;
-use phase::refusals::WRONG_SHAPE;
 use relay::RelayState;
 
 // What the next line is to be; after a refusal, its number.

@@ -2,9 +2,9 @@
 ghost use mathlib.Core.Path.{_≡_};
 ghost use Rattle.files.specs.Row.{rowAnswer};
 use crate::line::read_line;
-use phase::refusals::WRONG_BLOCK;
-use phase::refusals::WRONG_NUMBER;
-use phase::refusals::WRONG_SHAPE;
+use crate::refusals::WRONG_NUMBER;
+use crate::refusals::WRONG_SHAPE;
+use relay::refusals::WRONG_BLOCK;
 
 pub struct Row {
     pub number: u32,

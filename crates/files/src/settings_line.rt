@@ -2,8 +2,8 @@
 ghost use mathlib.Core.Path.{_≡_};
 ghost use Rattle.files.specs.SettingsLine.{settingsLineAnswer};
 use crate::line::read_line;
+use crate::refusals::WRONG_SHAPE;
 use phase::Settings;
-use phase::refusals::WRONG_SHAPE;
 
 pub enum SettingsRead {
     Accepted(Settings),

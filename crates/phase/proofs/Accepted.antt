@@ -6,29 +6,17 @@ use mathlib.Core.Bool.{Bool, true, false, cond, _&&_, _||_, false≢true}
 use mathlib.Core.Path.{_≡_, refl, sym, _∙_, ap}
 use borrow.Author.Tests.{leb-true, eq-eqb, ne-eqb}
 use lib.Dec.{leb, eqb}
+use Rattle.checks.specs.Checks.{firstFailed}
+use Rattle.checks.specs.Range.{inRange}
+use Rattle.checks.proofs.Tests.{both-true, passed, in-range}
 use Rattle.phase.specs.declared.settings.Settings.{Settings}
 use Rattle.phase.specs.declared.state.PhaseState.{PhaseState}
 use Rattle.phase.specs.Jump.{jumpLimit, jumpRefusal, jumpOf, refusedJump, jumpAnswer}
 use Rattle.phase.specs.Operation.{kindOf}
 use Rattle.phase.specs.Pace.{paceOf, Ready}
-use Rattle.phase.specs.Refusals.{firstFailed}
-use Rattle.phase.specs.Settings.{InRange, inRange, settingsChecks, settingsRefusal, tripLevel}
+use Rattle.phase.specs.Settings.{InRange, settingsChecks, settingsRefusal, tripLevel}
 use Rattle.phase.specs.State.{runLimit, valid, validCounts, validFor}
 use Rattle.phase.specs.Tick.{tickRefusal, tickOf, refusedTick, tickAnswer}
-
--- a check that was passed, and what came after it
-pub passed : (b : Bool) (rest k : ℕ) → cond b rest (suc k) ≡ 0 → (b ≡ true) × (rest ≡ 0)
-passed true rest k e = (refl, e)
-passed false rest k e = absurd (suc-ne-zero k e)
-
-pub both : (a b : Bool) → a && b ≡ true → (a ≡ true) × (b ≡ true)
-both true b e = (refl, e)
-both false b e = absurd (false≢true e)
-
-in-range : (low high n : ℕ) → inRange low high n ≡ true → (low ≤ n) × (n ≤ high)
-in-range low high n e =
-    let t = both (leb low n) (leb n high) e in
-    (leb-true low n (t .0), leb-true n high (t .1))
 
 -- settings that pass the check, and what comes after them
 pub settings-passed : (settings : Settings) (rest : ℕ) → firstFailed (settingsChecks settings) rest ≡ 0 → InRange settings × (rest ≡ 0)
@@ -69,10 +57,10 @@ accepted-settings settings e = e
 pub ready : (settings : Settings) (state : PhaseState) (g : ℕ) → InRange settings → valid settings state ≡ true → Ready settings (paceOf settings g) state
 unfolding valid paceOf
 ready settings state g range e =
-    let all = both (leb (state .sum) (tripLevel settings) && validCounts state) (validFor (kindOf (settings .operation)) state) e in
-    let front = both (leb (state .sum) (tripLevel settings)) (validCounts state) (all .0) in
-    let counts = both (leb (state .run) runLimit && leb (state .drop) runLimit) (eqb (state .run) 0 || eqb (state .drop) 0) (front .1) in
-    let limits = both (leb (state .run) runLimit) (leb (state .drop) runLimit) (counts .0) in
+    let all = both-true (leb (state .sum) (tripLevel settings) && validCounts state) (validFor (kindOf (settings .operation)) state) e in
+    let front = both-true (leb (state .sum) (tripLevel settings)) (validCounts state) (all .0) in
+    let counts = both-true (leb (state .run) runLimit && leb (state .drop) runLimit) (eqb (state .run) 0 || eqb (state .drop) 0) (front .1) in
+    let limits = both-true (leb (state .run) runLimit) (leb (state .drop) runLimit) (counts .0) in
     record {
       range = range;
       gain = refl;

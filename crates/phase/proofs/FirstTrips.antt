@@ -7,6 +7,7 @@ use mathlib.Core.Bool.{Bool, true, false, cond, _&&_}
 use mathlib.Core.Path.{_≡_, refl, ap, sym, _∙_}
 use borrow.Author.Tests.{leb-true, leb-false, le-leb, lt-leb, ltb-true, ltb-false}
 use lib.Dec.{leb, ltb, eqb, eqb·suc-zero}
+use Rattle.checks.proofs.Tests.{leb-iff}
 use Rattle.phase.specs.declared.operation.Kind.{Kind}
 use Rattle.phase.specs.declared.operation.Kind.the-variants.{Off, Definite, Iec, Ansi}
 use Rattle.phase.specs.declared.settings.Settings.{Settings}
@@ -20,14 +21,6 @@ use Rattle.phase.specs.Tick.{gainAt, started, nextState, phaseTrip, due}
 use Rattle.phase.proofs.Walk.{closedAfter, started-stays, ticks-closed}
 
 -- ---- tests
-
--- a test is another test where each order gives the other
-leb-iff : (a b c d : ℕ) → (a ≤ b → c ≤ d) → (c ≤ d → a ≤ b) → leb a b ≡ leb c d
-leb-iff a b c d f g = go (leb a b) refl
-  where
-    go : (t : Bool) → leb a b ≡ t → t ≡ leb c d
-    go true q = sym (le-leb c d (f (leb-true a b q)))
-    go false q = sym (lt-leb c d (lt-of-not-le (λ e. not-le-of-lt (leb-false a b q) (g e))))
 
 -- two tests joined are one test
 both-iff : (a b c d m k : ℕ) → (a ≤ b → c ≤ d → m ≤ k) → (m ≤ k → a ≤ b) → (m ≤ k → c ≤ d) → leb a b && leb c d ≡ leb m k

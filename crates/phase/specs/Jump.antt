@@ -3,13 +3,14 @@ use Prim.Native.Nat.{ℕ, zero, suc}
 use mathlib.Core.Bool.{Bool, false, cond}
 use mathlib.Core.List.{[], _∷_, _++_}
 use lib.Dec.{leb, eqb}
+use Rattle.checks.specs.Checks.{check, lowest}
 use Rattle.phase.specs.declared.jump.Jumped.{Jumped}
 use Rattle.phase.specs.declared.jump.TripTick.{TripTick}
 use Rattle.phase.specs.declared.jump.TripTick.the-variants.{At, None}
 use Rattle.phase.specs.declared.settings.Settings.{Settings}
 use Rattle.phase.specs.declared.state.PhaseState.{PhaseState}
-use Rattle.phase.specs.Refusals.{check, lowest, jumpTooLong}
-use Rattle.phase.specs.Tick.{nextState, phaseTrip, tickChecks}
+use Rattle.phase.specs.Refusals.{jumpTooLong}
+use Rattle.phase.specs.Tick.{nextState, phaseTrip, phaseChecks}
 
 -- the state after n ticks with the sample g
 unfoldable pub stateAfter : Settings → ℕ → ℕ → PhaseState → PhaseState
@@ -47,7 +48,7 @@ jumpLimit = 3600000
 -- a jump is refused by 1 to 9
 unfoldable pub jumpRefusal : Settings → PhaseState → ℕ → ℕ
 jumpRefusal settings state count =
-    lowest (tickChecks settings state ++ (check (leb count jumpLimit) jumpTooLong ∷ []))
+    lowest (phaseChecks settings state ++ (check (leb count jumpLimit) jumpTooLong ∷ []))
 
 -- an accepted jump
 abbrev pub jumpOf : Settings → PhaseState → ℕ → ℕ → Jumped

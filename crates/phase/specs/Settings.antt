@@ -1,13 +1,22 @@
 -- The settings (01, 'Settings').
 use Prim.Native.Nat.{ℕ, _*_, _^_, _≤_}
-use mathlib.Core.Bool.{Bool, _&&_}
 use mathlib.Core.List.{List, [], _∷_}
-use lib.Dec.{leb}
+use Rattle.checks.specs.Checks.{Check, check, lowest}
+use Rattle.checks.specs.Range.{inRange}
 use Rattle.phase.specs.declared.settings.Settings.{Settings}
-use Rattle.phase.specs.Refusals.{Check, check, lowest}
 
-abbrev pub inRange : ℕ → ℕ → ℕ → Bool
-inRange low high n = leb low n && leb n high
+-- the seven settings, in the order of the table
+abbrev pub settingsOf : ℕ → ℕ → ℕ → ℕ → ℕ → ℕ → ℕ → Settings
+settingsOf operation startCurrent timeMultiplier minimumDelay definiteDelay resetTime startOnly =
+    record {
+      operation = operation;
+      «start_current» = startCurrent;
+      «time_multiplier» = timeMultiplier;
+      «minimum_delay» = minimumDelay;
+      «definite_delay» = definiteDelay;
+      «reset_time» = resetTime;
+      «start_only» = startOnly;
+    }
 
 -- the table, row by row; 1 to 7: "the setting in that row of the table above is outside its range".
 -- "All are checked, whatever the operation."

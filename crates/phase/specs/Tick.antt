@@ -3,6 +3,7 @@ use Prim.Native.Nat.{ℕ, _+_, _-_, _*_, min}
 use mathlib.Core.Bool.{Bool, true, false, cond, _&&_}
 use mathlib.Core.List.{List, [], _∷_, _++_}
 use lib.Dec.{ltb, leb, eqb}
+use Rattle.checks.specs.Checks.{Check, check, lowest}
 use Rattle.curve.specs.Gain.{gainOf, lossOf}
 use Rattle.curve.specs.Ratio.{ratioOf}
 use Rattle.phase.specs.declared.operation.Kind.{Kind}
@@ -11,7 +12,7 @@ use Rattle.phase.specs.declared.settings.Settings.{Settings}
 use Rattle.phase.specs.declared.state.PhaseState.{PhaseState}
 use Rattle.phase.specs.declared.tick.Ticked.{Ticked}
 use Rattle.phase.specs.Operation.{kindOf}
-use Rattle.phase.specs.Refusals.{Check, check, lowest, invalidState}
+use Rattle.phase.specs.Refusals.{invalidState}
 use Rattle.phase.specs.Settings.{settingsChecks, tripLevel}
 use Rattle.phase.specs.State.{runLimit, clearState, valid}
 
@@ -94,12 +95,12 @@ unfoldable pub phaseTrip : Settings → PhaseState → ℕ → Bool
 phaseTrip settings state g =
     started settings state g && eqb (settings .«start_only») 0 && due (kindOf (settings .operation)) settings (nextState settings state g)
 
--- a tick is refused by 1 to 8
-abbrev pub tickChecks : Settings → PhaseState → List Check
-tickChecks settings state = settingsChecks settings ++ (check (valid settings state) invalidState ∷ [])
+-- a call with settings and a state is refused by 1 to 8
+abbrev pub phaseChecks : Settings → PhaseState → List Check
+phaseChecks settings state = settingsChecks settings ++ (check (valid settings state) invalidState ∷ [])
 
 unfoldable pub tickRefusal : Settings → PhaseState → ℕ
-tickRefusal settings state = lowest (tickChecks settings state)
+tickRefusal settings state = lowest (phaseChecks settings state)
 
 -- an accepted tick
 abbrev pub tickOf : Settings → PhaseState → ℕ → Ticked

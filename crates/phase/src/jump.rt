@@ -10,9 +10,9 @@ use crate::pace::Pace;
 use crate::pace::pace_of;
 use crate::refusals::JUMP_TOO_LONG;
 use crate::settings::Settings;
-use crate::settings::pick;
 use crate::state::PhaseState;
-use crate::tick::refusal_then;
+use crate::tick::phase_first_failed;
+use checks::first_failed;
 
 // The first tick with the phase trip on, counted from 1, or none.
 pub enum TripTick {
@@ -67,10 +67,10 @@ fn jump_ready(settings: Settings, pace: Pace, state: PhaseState, count: u32) -> 
 pub fn jump(settings: Settings, state: PhaseState, g: u32, count: u32) -> Jumped
     ensures { λ r. ⌜ r ≡ jumpAnswer settings state g count ⌝ }
 {
-    let refusal = refusal_then(
+    let refusal = phase_first_failed(
         settings,
         state,
-        pick(count <= Jumped::COUNT_LIMIT, 0, JUMP_TOO_LONG),
+        first_failed(count <= Jumped::COUNT_LIMIT, JUMP_TOO_LONG, 0),
     );
     if refusal != 0 {
         return Jumped {

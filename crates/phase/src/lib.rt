@@ -1,6 +1,5 @@
 // Layer 2, one phase: the settings and their check, the phase state, one tick, and the jump over many equal ticks.
 mod advance;
-pub mod bools;
 mod first_trip;
 pub mod jump;
 mod operation;

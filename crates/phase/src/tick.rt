@@ -1,22 +1,21 @@
 // One tick of one phase.
 ghost use mathlib.Core.Path.{_≡_};
+ghost use Rattle.checks.specs.Checks.{firstFailed};
 ghost use Rattle.phase.specs.Pace.{Ready};
-ghost use Rattle.phase.specs.Refusals.{firstFailed};
-ghost use Rattle.phase.specs.Tick.{due, startBy, tickOf, tickChecks, tickAnswer};
+ghost use Rattle.phase.specs.Tick.{due, startBy, tickOf, phaseChecks, tickAnswer};
 use crate::advance::advance;
 use crate::advance::is_started;
-use crate::bools::both;
 use crate::operation::Kind;
 use crate::operation::kind_of;
 use crate::pace::Pace;
 use crate::pace::pace_of;
 use crate::refusals::INVALID_STATE;
 use crate::settings::Settings;
-use crate::settings::check_then;
-use crate::settings::pick;
+use crate::settings::settings_first_failed;
 use crate::settings::trip_level;
 use crate::state::PhaseState;
 use crate::state::is_valid;
+use checks::first_failed;
 
 pub struct Ticked {
     pub refusal: u32,
@@ -32,14 +31,8 @@ fn is_due(kind: Kind, settings: Settings, after: PhaseState) -> bool
     match kind {
         Kind::Off => false,
         Kind::Definite => settings.definite_delay <= after.run,
-        Kind::Iec => both(
-            trip_level(settings) <= after.sum,
-            settings.minimum_delay <= after.run,
-        ),
-        Kind::Ansi => both(
-            trip_level(settings) <= after.sum,
-            settings.minimum_delay <= after.run,
-        ),
+        Kind::Iec => (trip_level(settings) <= after.sum) & (settings.minimum_delay <= after.run),
+        Kind::Ansi => (trip_level(settings) <= after.sum) & (settings.minimum_delay <= after.run),
     }
 }
 
@@ -64,8 +57,8 @@ pub fn tick_ready(settings: Settings, pace: Pace, state: PhaseState) -> Ticked
     let started = is_started(settings, state, pace.sample);
     let after = advance(kind, settings, pace, 1, state);
     let start = start_by(kind, started);
-    let allowed = both(started, settings.start_only == 0);
-    let trip = both(allowed, is_due(kind, settings, after));
+    let allowed = started & (settings.start_only == 0);
+    let trip = allowed & is_due(kind, settings, after);
     Ticked {
         refusal: 0,
         state: after,
@@ -75,12 +68,12 @@ pub fn tick_ready(settings: Settings, pace: Pace, state: PhaseState) -> Ticked
 }
 
 // The lowest number of 1 to 8 that applies, else `rest`.
-pub(crate) fn refusal_then(settings: Settings, state: PhaseState, rest: u32) -> u32
-    ensures { λ r. ⌜ r ≡ firstFailed (tickChecks settings state) rest ⌝ }
+pub(crate) fn phase_first_failed(settings: Settings, state: PhaseState, rest: u32) -> u32
+    ensures { λ r. ⌜ r ≡ firstFailed (phaseChecks settings state) rest ⌝ }
 {
-    check_then(
+    settings_first_failed(
         settings,
-        pick(is_valid(settings, state), rest, INVALID_STATE),
+        first_failed(is_valid(settings, state), INVALID_STATE, rest),
     )
 }
 
@@ -88,7 +81,7 @@ pub(crate) fn refusal_then(settings: Settings, state: PhaseState, rest: u32) -> 
 pub fn tick(settings: Settings, state: PhaseState, g: u32) -> Ticked
     ensures { λ r. ⌜ r ≡ tickAnswer settings state g ⌝ }
 {
-    let refusal = refusal_then(settings, state, 0);
+    let refusal = phase_first_failed(settings, state, 0);
     if refusal != 0 {
         return Ticked {
             refusal,

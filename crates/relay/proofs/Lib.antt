@@ -2,4 +2,3 @@ pub mod RelayLaws
 pub mod ByteLaws
 pub mod BatchLaws
 pub mod BorderLaws
-pub mod TimerLaws

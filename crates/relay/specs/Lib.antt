@@ -1,3 +1,4 @@
+pub mod Refusals
 pub mod State
 pub mod Outputs
 pub mod Tick
@@ -5,4 +6,3 @@ pub mod Step
 pub mod Batch
 pub mod Bytes
 pub mod Border
-pub mod Timer

@@ -1,11 +1,11 @@
-// Layer 3, the relay: three phases, the decision, the batch, the timers and the C border.
+// Layer 3, the relay: three phases, the decision, the batch and the C border.
 pub mod batch;
 pub mod border;
 mod bytes;
 mod outputs;
+pub mod refusals;
 mod state;
 mod step;
 pub mod tick;
-pub mod timer;
 
 pub use state::RelayState;

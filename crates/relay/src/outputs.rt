@@ -2,8 +2,6 @@
 ghost use mathlib.Core.Path.{_≡_};
 ghost use Prim.Native.Nat.{_≤_};
 ghost use Rattle.relay.specs.Outputs.{bit, general, outputByte, startBits, tripBits};
-use phase::bools::both;
-use phase::bools::either;
 
 fn bit(on: bool, value: u8) -> u8
     ensures { λ r. ⌜ (r ≡ bit on value) × (r ≤ value) ⌝ }
@@ -26,7 +24,7 @@ fn trip_bits(l1: bool, l2: bool, l3: bool) -> u8
 fn general(l1: bool, l2: bool, l3: bool, block: u8) -> bool
     ensures { λ r. ⌜ r ≡ general l1 l2 l3 block ⌝ }
 {
-    both(either(either(l1, l2), l3), block == 0)
+    (l1 | l2 | l3) & (block == 0)
 }
 
 // The phases' starts and trips, and the general ones, which a block turns off.

@@ -1,27 +1,34 @@
 // One tick of the three phases.
 ghost use mathlib.Core.Path.{_≡_};
-ghost use Rattle.relay.specs.Tick.{tickAnswer};
+ghost use Rattle.relay.specs.Tick.{relayTickAnswer};
+use crate::refusals::WRONG_BLOCK;
 use crate::state::RelayState;
-use crate::state::refusal_then;
+use crate::state::relay_first_failed;
 use crate::step::paces_of;
 use crate::step::step;
+use checks::first_failed;
 use phase::Settings;
-use phase::refusals::WRONG_BLOCK;
-use phase::settings::pick;
 
-pub struct Ticked {
+pub struct RelayTicked {
     pub refusal: u32,
     pub state: RelayState,
     pub outputs: u8,
 }
 
 // One tick: refused by the lowest number that applies, else the state and the output byte.
-pub fn tick(settings: Settings, state: RelayState, l1: u32, l2: u32, l3: u32, block: u8) -> Ticked
-    ensures { λ r. ⌜ r ≡ tickAnswer settings state l1 l2 l3 block ⌝ }
+pub fn tick(
+    settings: Settings,
+    state: RelayState,
+    l1: u32,
+    l2: u32,
+    l3: u32,
+    block: u8,
+) -> RelayTicked
+    ensures { λ r. ⌜ r ≡ relayTickAnswer settings state l1 l2 l3 block ⌝ }
 {
-    let refusal = refusal_then(settings, state, pick(block <= 1, 0, WRONG_BLOCK));
+    let refusal = relay_first_failed(settings, state, first_failed(block <= 1, WRONG_BLOCK, 0));
     if refusal != 0 {
-        return Ticked {
+        return RelayTicked {
             refusal,
             state,
             outputs: 0,
@@ -30,7 +37,7 @@ pub fn tick(settings: Settings, state: RelayState, l1: u32, l2: u32, l3: u32, bl
     let paces = paces_of(settings, l1, l2, l3);
     let stepped = step(settings, paces, state, l1, l2, l3, block);
     let after = stepped.state;
-    Ticked {
+    RelayTicked {
         refusal: 0,
         state: after,
         outputs: stepped.outputs,

@@ -5,24 +5,24 @@ use borrow.Author.Needs.{needs}
 use Rattle.phase.proofs.Accepted.{ready, jump-passed, jump-accepted, jump-refused}
 use Rattle.phase.specs.Jump.{jumpOf, jumpRefusal}
 use Rattle.phase.specs.Pace.{paceOf}
-use Rattle.phase.specs.Refusals.{firstFailed}
-use Rattle.phase.specs.Tick.{tickChecks}
+use Rattle.checks.specs.Checks.{firstFailed}
+use Rattle.phase.specs.Tick.{phaseChecks}
 use Rattle.phase.specs.declared.pace.Pace.{Pace}
 use Rattle.phase.proofs.jump.jump.Statement.{statement}
 use Rattle.phase.proofs.jump.jump.Tie as tie
 
-pick-requires : tie.Need-pick-requires
-pick-requires c κs = search needs
+first-failed-requires : tie.Need-first-failed-requires
+first-failed-requires c κs = search needs
 
-refusal-then-requires : tie.Need-refusal-then-requires
-refusal-then-requires c κs = search needs
+phase-first-failed-requires : tie.Need-phase-first-failed-requires
+phase-first-failed-requires c κs = search needs
 
 returns : tie.Need-returns
 unfolding jumpRefusal
 returns c =
     let a = c .before .before .before .args in
-    let e : c .before .refusal-then .result ≡ jumpRefusal (a .settings) (a .state) (a .count)
-    = c .before .refusal-then .ensures ∙ ap (λ n. firstFailed (tickChecks (a .settings) (a .state)) n) (c .before .before .pick .ensures) in
+    let e : c .before .phase-first-failed .result ≡ jumpRefusal (a .settings) (a .state) (a .count)
+    = c .before .phase-first-failed .ensures ∙ ap (λ n. firstFailed (phaseChecks (a .settings) (a .state)) n) (c .before .before .first-failed .ensures) in
     sym (jump-refused (a .settings) (a .state) (a .g) (a .count) _ e (c .if1 .taken))
 
 pace-of-requires : tie.Need-pace-of-requires
@@ -32,8 +32,8 @@ jump-ready-requires : tie.Need-jump-ready-requires
 unfolding jumpRefusal
 jump-ready-requires c κs =
     let a = c .before .before .before .before .args in
-    let e : c .before .before .refusal-then .result ≡ jumpRefusal (a .settings) (a .state) (a .count)
-    = c .before .before .refusal-then .ensures ∙ ap (λ n. firstFailed (tickChecks (a .settings) (a .state)) n) (c .before .before .before .pick .ensures) in
+    let e : c .before .before .phase-first-failed .result ≡ jumpRefusal (a .settings) (a .state) (a .count)
+    = c .before .before .phase-first-failed .ensures ∙ ap (λ n. firstFailed (phaseChecks (a .settings) (a .state)) n) (c .before .before .before .first-failed .ensures) in
     let p = jump-passed (a .settings) (a .state) (a .count) (sym e ∙ c .before .if1 .left) in
     (rw (c .pace-of .ensures) (ready (a .settings) (a .state) (a .g) (p .0) (p .1)), p .2)
 
@@ -41,8 +41,8 @@ returns-2 : tie.Need-returns-2
 unfolding paceOf jumpRefusal
 returns-2 c =
     let a = c .before .before .before .before .before .args in
-    let e : c .before .before .before .refusal-then .result ≡ jumpRefusal (a .settings) (a .state) (a .count)
-    = c .before .before .before .refusal-then .ensures ∙ ap (λ n. firstFailed (tickChecks (a .settings) (a .state)) n) (c .before .before .before .before .pick .ensures) in
+    let e : c .before .before .before .phase-first-failed .result ≡ jumpRefusal (a .settings) (a .state) (a .count)
+    = c .before .before .before .phase-first-failed .ensures ∙ ap (λ n. firstFailed (phaseChecks (a .settings) (a .state)) n) (c .before .before .before .before .first-failed .ensures) in
     c .jump-ready .ensures
     ∙ ap (λ (pace : Pace). jumpOf (a .settings) (a .state) (pace .sample) (a .count)) (c .before .pace-of .ensures)
     ∙ sym (jump-accepted (a .settings) (a .state) (a .g) (a .count) (sym e ∙ c .before .before .if1 .left))
@@ -51,8 +51,8 @@ pub jump-spec : {M : Type 1} → statement M
 jump-spec =
     tie.close
     (tie.spec
-    pick-requires
-    refusal-then-requires
+    first-failed-requires
+    phase-first-failed-requires
     returns
     pace-of-requires
     jump-ready-requires

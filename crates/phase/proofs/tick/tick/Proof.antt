@@ -9,14 +9,14 @@ use Rattle.phase.specs.declared.pace.Pace.{Pace}
 use Rattle.phase.proofs.tick.tick.Statement.{statement}
 use Rattle.phase.proofs.tick.tick.Tie as tie
 
-refusal-then-requires : tie.Need-refusal-then-requires
-refusal-then-requires c κs = search needs
+phase-first-failed-requires : tie.Need-phase-first-failed-requires
+phase-first-failed-requires c κs = search needs
 
 returns : tie.Need-returns
 unfolding tickRefusal
 returns c =
     let a = c .before .before .args in
-    let e : c .before .refusal-then .result ≡ tickRefusal (a .settings) (a .state) = c .before .refusal-then .ensures in
+    let e : c .before .phase-first-failed .result ≡ tickRefusal (a .settings) (a .state) = c .before .phase-first-failed .ensures in
     sym (tick-refused (a .settings) (a .state) (a .g) _ e (c .if1 .taken))
 
 pace-of-requires : tie.Need-pace-of-requires
@@ -26,7 +26,7 @@ tick-ready-requires : tie.Need-tick-ready-requires
 unfolding tickRefusal
 tick-ready-requires c κs =
     let a = c .before .before .before .args in
-    let e : c .before .before .refusal-then .result ≡ tickRefusal (a .settings) (a .state) = c .before .before .refusal-then .ensures in
+    let e : c .before .before .phase-first-failed .result ≡ tickRefusal (a .settings) (a .state) = c .before .before .phase-first-failed .ensures in
     let p = tick-passed (a .settings) (a .state) (sym e ∙ c .before .if1 .left) in
     rw (c .pace-of .ensures) (ready (a .settings) (a .state) (a .g) (p .0) (p .1))
 
@@ -34,7 +34,7 @@ returns-2 : tie.Need-returns-2
 unfolding paceOf tickRefusal
 returns-2 c =
     let a = c .before .before .before .before .args in
-    let e : c .before .before .before .refusal-then .result ≡ tickRefusal (a .settings) (a .state) = c .before .before .before .refusal-then .ensures in
+    let e : c .before .before .before .phase-first-failed .result ≡ tickRefusal (a .settings) (a .state) = c .before .before .before .phase-first-failed .ensures in
     c .tick-ready .ensures
     ∙ ap (λ (pace : Pace). tickOf (a .settings) (a .state) (pace .sample)) (c .before .pace-of .ensures)
     ∙ sym (tick-accepted (a .settings) (a .state) (a .g) (sym e ∙ c .before .before .if1 .left))
@@ -42,4 +42,4 @@ returns-2 c =
 pub tick-spec : {M : Type 1} → statement M
 tick-spec =
     tie.close
-    (tie.spec refusal-then-requires returns pace-of-requires tick-ready-requires returns-2)
+    (tie.spec phase-first-failed-requires returns pace-of-requires tick-ready-requires returns-2)

@@ -18,20 +18,14 @@ advance-requires c κs = search needs
 start-by-requires : tie.Need-start-by-requires
 start-by-requires c κs = search needs
 
-both-requires : tie.Need-both-requires
-both-requires c κs = search needs
-
 is-due-requires : tie.Need-is-due-requires
 is-due-requires c κs = search needs
-
-both-requires-2 : tie.Need-both-requires-2
-both-requires-2 c κs = search needs
 
 returns : tie.Need-returns
 unfolding phaseStart phaseTrip
 returns c =
-    let a = c .before .before .before .before .before .before .before .before .args in
-    rw (c .both2 .ensures, c .before .is-due .ensures, c .before .before .both .ensures, c .before .before .before .before .start-by .ensures, c .before .before .before .before .before .advance .ensures, c .before .before .before .before .before .before .is-started .ensures, c .before .before .before .before .before .before .before .kind-of .ensures, next-closed (a .settings) (a .pace .sample) (a .state))
+    let a = c .before .before .before .before .before .before .args in
+    rw (c .is-due .ensures, c .before .before .start-by .ensures, c .before .before .before .advance .ensures, c .before .before .before .before .is-started .ensures, c .before .before .before .before .before .kind-of .ensures, next-closed (a .settings) (a .pace .sample) (a .state))
 
 pub tick-ready-spec : {M : Type 1} → statement M
 tick-ready-spec =
@@ -41,7 +35,5 @@ tick-ready-spec =
     is-started-requires
     advance-requires
     start-by-requires
-    both-requires
     is-due-requires
-    both-requires-2
     returns)

@@ -23,15 +23,9 @@ element-copy-out-is-valid-3 c = search needs
 is-valid-requires-3 : tie.Need-is-valid-requires-3
 is-valid-requires-3 c κs = search needs
 
-both-requires : tie.Need-both-requires
-both-requires c κs = search needs
-
-both-requires-2 : tie.Need-both-requires-2
-both-requires-2 c κs = search needs
-
 returns : tie.Need-returns
 unfolding validRelay
-returns c = rw (c .both2 .ensures, c .before .both .ensures, c .before .before .is-valid3 .ensures, c .before .before .before .before .is-valid2 .ensures, c .before .before .before .before .before .before .is-valid .ensures)
+returns c = rw (c .is-valid3 .ensures, c .before .before .is-valid2 .ensures, c .before .before .before .before .is-valid .ensures)
 
 pub all-valid-spec : {M : Type 1} → statement M
 all-valid-spec =
@@ -43,6 +37,4 @@ all-valid-spec =
     is-valid-requires-2
     element-copy-out-is-valid-3
     is-valid-requires-3
-    both-requires
-    both-requires-2
     returns)

@@ -1,0 +1,42 @@
+-- Tests on numbers: two joined, one for another, and a range.
+-- Assumes nothing.
+use Prim.Native.Nat.{ℕ, suc, _≤_, _<_}
+use native.Mathlib.Nat.{suc-ne-zero, lt-of-not-le, not-le-of-lt}
+use mathlib.Core.Bool.{Bool, true, false, cond, _&&_, and-false, false≢true}
+use mathlib.Core.Path.{_≡_, refl, sym}
+use borrow.Author.Tests.{leb-true, leb-false, le-leb, lt-leb}
+use lib.Dec.{leb}
+use Rattle.checks.specs.Range.{inRange}
+
+pub both-true : (a b : Bool) → a && b ≡ true → (a ≡ true) × (b ≡ true)
+both-true true b e = (refl, e)
+both-true false b e = absurd (false≢true e)
+
+-- a test is another test where each order gives the other
+pub leb-iff : (a b c d : ℕ) → (a ≤ b → c ≤ d) → (c ≤ d → a ≤ b) → leb a b ≡ leb c d
+leb-iff a b c d f g = go (leb a b) refl
+  where
+    go : (t : Bool) → leb a b ≡ t → t ≡ leb c d
+    go true q = sym (le-leb c d (f (leb-true a b q)))
+    go false q = sym (lt-leb c d (lt-of-not-le (λ e. not-le-of-lt (leb-false a b q) (g e))))
+
+-- a check that was passed, and what came after it
+pub passed : (b : Bool) (rest k : ℕ) → cond b rest (suc k) ≡ 0 → (b ≡ true) × (rest ≡ 0)
+passed true rest k e = (refl, e)
+passed false rest k e = absurd (suc-ne-zero k e)
+
+-- ---- a range
+
+pub in-range : (low high n : ℕ) → inRange low high n ≡ true → (low ≤ n) × (n ≤ high)
+in-range low high n e =
+    let t = both-true (leb low n) (leb n high) e in
+    (leb-true low n (t .0), leb-true n high (t .1))
+
+pub is-in-range : (low high n : ℕ) → low ≤ n → n ≤ high → inRange low high n ≡ true
+is-in-range low high n low-ok high-ok = rw (le-leb low n low-ok, le-leb n high high-ok)
+
+pub below-range : (low high n : ℕ) → n < low → inRange low high n ≡ false
+below-range low high n h = rw (lt-leb low n h)
+
+pub above-range : (low high n : ℕ) → high < n → inRange low high n ≡ false
+above-range low high n h = rw (lt-leb n high h, and-false (leb low n))

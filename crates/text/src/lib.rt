@@ -1,0 +1,2 @@
+// Text and bytes: a library beneath the layers, which names nothing of relays.
+pub mod bytes;

@@ -1,0 +1,4 @@
+// The refusal numbers of the timers.
+pub const INVALID_TIMER: u32 = 8;
+
+pub const DELAY_TOO_LONG: u32 = 15;
