@@ -1,14 +1,16 @@
 -- What the layers above need of gain and loss, without opening them.
 -- Assumes nothing.
 use Prim.Native.Nat.{ℕ, _/_, _^_, _≤_}
-use native.Mathlib.Nat.{div-le-of-le-mul, mul-le-mul-right}
+use native.Mathlib.Nat.{div-le-of-le-mul, div-zero, mul-le-mul-right}
 use native.Mathlib.Omega.{arith}
 use mathlib.Core.Bool.{Bool, true, false, cond, and-false}
 use mathlib.Core.Path.{_≡_, refl}
-use borrow.Author.Tests.{lt-leb, le-leb}
+use borrow.Author.Tests.{lt-leb}
+use Rattle.checks.specs.Range.{inRange}
+use Rattle.checks.proofs.Tests.{below-range}
 use Rattle.curve.specs.Gain.{gainOf, lossOf}
-use Rattle.curve.specs.Time.{between, hasOperateTime, hasResetTime, operateTime, resetTime}
-use Rattle.curve.proofs.TimeLaws.{operate-time-at-least, reset-time-at-least, below-none, is-between}
+use Rattle.curve.specs.Time.{hasOperateTime, hasResetTime, operateTime, resetTime}
+use Rattle.curve.proofs.TimeLaws.{operate-time-at-least, reset-time-at-least}
 
 -- a share of a time of 100 microseconds or more
 share-at-most : (t : ℕ) → 100 ≤ t → 10 ^ 14 / t ≤ 10 ^ 12
@@ -27,35 +29,28 @@ pub loss-at-most : (op m : ℕ) → lossOf op m ≤ 10 ^ 12
 unfolding lossOf
 loss-at-most op m = shared-at-most (hasResetTime op m) (resetTime op m) (reset-time-at-least op m)
 
--- ---- where there is none
+-- ---- one quotient: where there is no time, the time is 0, and a quotient by 0 is 0
 
-pub gain-zero-by-op : (op m : ℕ) → between 2 12 op ≡ false → gainOf op m ≡ 0
-unfolding gainOf
-gain-zero-by-op op m e = rw e
+share-of : (b : Bool) (t : ℕ) → 10 ^ 14 / cond b t 0 ≡ cond b (10 ^ 14 / cond b t 0) 0
+share-of true t = refl
+share-of false t = div-zero (10 ^ 14)
 
-pub gain-zero-by-ratio : (op m : ℕ) → between 101 2000 m ≡ false → gainOf op m ≡ 0
-unfolding gainOf
-gain-zero-by-ratio op m e = rw (e, and-false (between 2 12 op))
+pub gain-by-time : (op m : ℕ) → 10 ^ 14 / operateTime op m ≡ gainOf op m
+unfolding gainOf operateTime
+gain-by-time op m = share-of (hasOperateTime op m) _
+
+pub loss-by-time : (op m : ℕ) → 10 ^ 14 / resetTime op m ≡ lossOf op m
+unfolding lossOf resetTime
+loss-by-time op m = share-of (hasResetTime op m) _
+
+-- ---- at the setting itself
 
 -- "it is 0 at m = 100 or less"
 pub gain-zero-to-100 : (op m : ℕ) → m ≤ 100 → gainOf op m ≡ 0
-gain-zero-to-100 op m h = gain-zero-by-ratio op m (below-none 101 2000 m (omega arith))
-
-pub loss-zero-by-op : (op m : ℕ) → between 6 12 op ≡ false → lossOf op m ≡ 0
-unfolding lossOf
-loss-zero-by-op op m e = rw e
+unfolding gainOf
+gain-zero-to-100 op m h = rw (below-range 101 2000 m (omega arith), and-false (inRange 2 12 op))
 
 -- "at m = 100 the loss is 0", and above it there is none
 pub loss-zero-from-100 : (op m : ℕ) → 100 ≤ m → lossOf op m ≡ 0
 unfolding lossOf
-loss-zero-from-100 op m h = rw (lt-leb m 99 (omega arith), and-false (between 6 12 op))
-
--- ---- where there is one
-
-pub gain-by-time : (op m : ℕ) → 2 ≤ op → op ≤ 12 → 101 ≤ m → m ≤ 2000 → gainOf op m ≡ 10 ^ 14 / operateTime op m
-unfolding gainOf
-gain-by-time op m a b c d = rw (is-between 2 12 op a b, is-between 101 2000 m c d)
-
-pub loss-by-time : (op m : ℕ) → 6 ≤ op → op ≤ 12 → m ≤ 99 → lossOf op m ≡ 10 ^ 14 / resetTime op m
-unfolding lossOf
-loss-by-time op m a b c = rw (is-between 6 12 op a b, le-leb m 99 c)
+loss-zero-from-100 op m h = rw (lt-leb m 99 (omega arith), and-false (inRange 6 12 op))

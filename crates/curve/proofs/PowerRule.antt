@@ -10,8 +10,9 @@ use mathlib.Core.Path.{_≡_, refl, sym, _∙_, ap}
 use borrow.Author.Tests.{leb-true, leb-false, le-leb, not-true}
 use lib.Dec.{lit≤, lit<}
 use lib.ListN.{length, getD}
+use Rattle.checks.proofs.Tests.{both-true}
 use Rattle.curve.specs.Power.{Least, isEnough, firstEnough, X}
-use Rattle.curve.proofs.Tables.{both, everyEntry, entry-passes}
+use Rattle.curve.proofs.Tables.{everyEntry, entry-passes}
 
 -- ---- enough at a number is enough at every larger one
 
@@ -46,7 +47,7 @@ isLeast m x = isEnough m x && not (isEnough m (x - 1))
 
 least-of : (m x : ℕ) → isLeast m x ≡ true → Least m x
 least-of m x e =
-    let t = both (isEnough m x) _ e in
+    let t = both-true (isEnough m x) _ e in
     record {
       enough = leb-true _ _ (t .0);
       fewer = λ y h. lt-of-not-le (λ f. not-le-of-lt (leb-false _ _ (not-true _ (t .1))) (enough-up m y (x - 1) (omega arith) f));

@@ -1,35 +1,23 @@
 -- How large the constants of the curves and their times are.
 -- Assumes nothing.
 use Prim.Native.Nat.{ℕ, _+_, _-_, _*_, _^_, _≤_, _<_}
-use native.Mathlib.Nat.{mul-le-mul}
+use native.Mathlib.Nat.{mul-le-mul, zero-add}
 use native.Mathlib.Omega.{arith}
 use mathlib.Core.Bool.{Bool, true, false, _&&_, and-false}
-use mathlib.Core.Path.{_≡_, refl}
-use borrow.Author.Tests.{leb-true, le-leb, lt-leb}
-use lib.Dec.{leb}
+use mathlib.Core.Path.{_≡_, refl, _∙_, ap}
+use borrow.Author.Tests.{leb-true, le-leb, lt-leb, eqb-true}
+use lib.Dec.{leb, eqb}
+use Rattle.checks.specs.Range.{inRange}
+use Rattle.checks.proofs.Tests.{both-true, in-range, is-in-range, below-range, above-range}
 use Rattle.curve.specs.declared.constants.Power.{Power}
 use Rattle.curve.specs.declared.constants.Power.the-variants.{Fiftieth, First, Second}
 use Rattle.curve.specs.declared.constants.Constants.{Constants}
 use Rattle.curve.specs.Constants.{constantsOf, curveTable, numbersIn}
 use Rattle.curve.specs.Power.{X}
-use Rattle.curve.specs.Time.{between, hasOperateTime, hasResetTime, inversePart, operateTime, resetPart, resetTime}
+use Rattle.curve.specs.Time.{hasOperateTime, hasResetTime, inversePart, operateTime, resetPart, resetTime}
 use Rattle.curve.proofs.PowerRule.{X-at-most, X-at-least}
 use Rattle.curve.proofs.RoundingLaws.{rounded-up-at-least, rounded-up-at-most}
-use Rattle.curve.proofs.Tables.{both, below-passes}
-
-pub in-between : (low high n : ℕ) → between low high n ≡ true → (low ≤ n) × (n ≤ high)
-in-between low high n e =
-    let t = both (leb low n) (leb n high) e in
-    (leb-true low n (t .0), leb-true n high (t .1))
-
-pub below-none : (low high n : ℕ) → n < low → between low high n ≡ false
-below-none low high n h = rw (lt-leb low n h)
-
-pub above-none : (low high n : ℕ) → high < n → between low high n ≡ false
-above-none low high n h = rw (lt-leb n high h, and-false (leb low n))
-
-pub is-between : (low high n : ℕ) → low ≤ n → n ≤ high → between low high n ≡ true
-is-between low high n low-ok high-ok = rw (le-leb low n low-ok, le-leb n high high-ok)
+use Rattle.curve.proofs.Tables.{below-passes}
 
 -- ---- the constants
 
@@ -47,13 +35,13 @@ pub record Moderate (row : Constants) : Type 0 where
 
 -- the same as a test
 abbrev moderate : Constants → Bool
-moderate row = (between (leastK (row .a)) 10000000 (row .k) && leb (row .c) 10000000) && leb (row .kr) 10000000
+moderate row = (inRange (leastK (row .a)) 10000000 (row .k) && leb (row .c) 10000000) && leb (row .kr) 10000000
 
 moderate-means : (row : Constants) → moderate row ≡ true → Moderate row
 moderate-means row e =
-    let all = both (between (leastK (row .a)) 10000000 (row .k) && leb (row .c) 10000000) (leb (row .kr) 10000000) e in
-    let front = both (between (leastK (row .a)) 10000000 (row .k)) (leb (row .c) 10000000) (all .0) in
-    let ks = in-between (leastK (row .a)) 10000000 (row .k) (front .0) in
+    let all = both-true (inRange (leastK (row .a)) 10000000 (row .k) && leb (row .c) 10000000) (leb (row .kr) 10000000) e in
+    let front = both-true (inRange (leastK (row .a)) 10000000 (row .k)) (leb (row .c) 10000000) (all .0) in
+    let ks = in-range (leastK (row .a)) 10000000 (row .k) (front .0) in
     record { k-low = ks .0; k = ks .1; c = leb-true (row .c) 10000000 (front .1); kr = leb-true (row .kr) 10000000 (all .1) }
 
 pub constants-moderate : (op : ℕ) → 2 ≤ op → op ≤ 12 → Moderate (constantsOf op)
@@ -69,6 +57,14 @@ kr-above-0 op low high =
     let place : 6 + (op - 6) ≡ op = omega arith in
     leb-true 1 _
     (rw place at (below-passes (λ i. leb 1 (numbersIn curveTable (6 + i) .kr)) 7 refl (op - 6) (omega arith)))
+
+-- the IEC curves have no c
+iec-c : (op : ℕ) → 2 ≤ op → op ≤ 5 → constantsOf op .c ≡ 0
+unfolding constantsOf
+iec-c op low high =
+    let place : 2 + (op - 2) ≡ op = omega arith in
+    eqb-true (numbersIn curveTable op .c) 0
+    (rw place at (below-passes (λ i. eqb (numbersIn curveTable (2 + i) .c) 0) 4 refl (op - 2) (omega arith)))
 
 -- ---- the times
 
@@ -94,29 +90,61 @@ inverse-at-most Second k m h = omega (arith, rounded-up-at-most (k * 1000000) (m
 
 -- ---- where there is a time
 
-pub operate-time-by-parts : (op m : ℕ) → between 2 12 op ≡ true → between 101 2000 m ≡ true → operateTime op m ≡ constantsOf op .c + inversePart (constantsOf op .a) (constantsOf op .k) m
+pub operate-time-by-parts : (op m : ℕ) → 2 ≤ op → op ≤ 12 → 101 ≤ m → m ≤ 2000 → operateTime op m ≡ constantsOf op .c + inversePart (constantsOf op .a) (constantsOf op .k) m
 unfolding operateTime
-operate-time-by-parts op m e f = rw (e, f)
+operate-time-by-parts op m a b c d = rw (is-in-range 2 12 op a b, is-in-range 101 2000 m c d)
 
-pub reset-time-by-parts : (op m : ℕ) → between 6 12 op ≡ true → m ≤ 99 → resetTime op m ≡ resetPart (constantsOf op .kr) m
+pub iec-time : (op m : ℕ) → 2 ≤ op → op ≤ 5 → 101 ≤ m → m ≤ 2000 → operateTime op m ≡ inversePart (constantsOf op .a) (constantsOf op .k) m
+iec-time op m a b c d =
+    operate-time-by-parts op m a (omega arith) c d
+    ∙ ap (λ n. n + inversePart (constantsOf op .a) (constantsOf op .k) m) (iec-c op a b)
+    ∙ zero-add (inversePart (constantsOf op .a) (constantsOf op .k) m)
+
+pub reset-time-by-parts : (op m : ℕ) → 6 ≤ op → op ≤ 12 → m ≤ 99 → resetTime op m ≡ resetPart (constantsOf op .kr) m
 unfolding resetTime
-reset-time-by-parts op m e h = rw (e, le-leb m 99 h)
+reset-time-by-parts op m a b c = rw (is-in-range 6 12 op a b, le-leb m 99 c)
+
+-- ---- where there is none
+
+pub no-operate-time-by-op : (op m : ℕ) → inRange 2 12 op ≡ false → operateTime op m ≡ 0
+unfolding operateTime
+no-operate-time-by-op op m e = rw e
+
+no-operate-time-by-ratio : (op m : ℕ) → inRange 101 2000 m ≡ false → operateTime op m ≡ 0
+unfolding operateTime
+no-operate-time-by-ratio op m e = rw (e, and-false (inRange 2 12 op))
+
+pub no-operate-time-to-100 : (op m : ℕ) → m ≤ 100 → operateTime op m ≡ 0
+no-operate-time-to-100 op m h = no-operate-time-by-ratio op m (below-range 101 2000 m (omega arith))
+
+pub no-operate-time-above-2000 : (op m : ℕ) → 2000 < m → operateTime op m ≡ 0
+no-operate-time-above-2000 op m h = no-operate-time-by-ratio op m (above-range 101 2000 m h)
+
+pub no-reset-time-by-op : (op m : ℕ) → inRange 6 12 op ≡ false → resetTime op m ≡ 0
+unfolding resetTime
+no-reset-time-by-op op m e = rw e
+
+pub no-reset-time-from-100 : (op m : ℕ) → 100 ≤ m → resetTime op m ≡ 0
+unfolding resetTime
+no-reset-time-from-100 op m h = rw (lt-leb m 99 (omega arith), and-false (inRange 6 12 op))
+
+-- ---- how large they are
 
 pub operate-time-at-least : (op m : ℕ) → hasOperateTime op m ≡ true → 100 ≤ operateTime op m
 operate-time-at-least op m e =
-    let t = both (between 2 12 op) (between 101 2000 m) e in
-    let ops = in-between 2 12 op (t .0) in
-    let ratios = in-between 101 2000 m (t .1) in
+    let t = both-true (inRange 2 12 op) (inRange 101 2000 m) e in
+    let ops = in-range 2 12 op (t .0) in
+    let ratios = in-range 101 2000 m (t .1) in
     let row = constants-moderate op (ops .0) (ops .1) in
-    rw (operate-time-by-parts op m (t .0) (t .1))
+    rw (operate-time-by-parts op m (ops .0) (ops .1) (ratios .0) (ratios .1))
     (omega (arith, inverse-at-least (constantsOf op .a) (constantsOf op .k) m (row .k-low) (ratios .0) (ratios .1)))
 
 pub reset-time-at-least : (op m : ℕ) → hasResetTime op m ≡ true → 100 ≤ resetTime op m
 reset-time-at-least op m e =
-    let t = both (between 6 12 op) (leb m 99) e in
-    let ops = in-between 6 12 op (t .0) in
+    let t = both-true (inRange 6 12 op) (leb m 99) e in
+    let ops = in-range 6 12 op (t .0) in
     let ratio = leb-true m 99 (t .1) in
     let square = square-below m ratio in
     let kr = kr-above-0 op (ops .0) (ops .1) in
-    rw (reset-time-by-parts op m (t .0) ratio)
+    rw (reset-time-by-parts op m (ops .0) (ops .1) ratio)
     (rounded-up-at-least 100 (constantsOf op .kr * 1000000) (10000 - m * m) (omega arith) (omega arith))

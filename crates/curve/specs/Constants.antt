@@ -7,8 +7,7 @@ use Rattle.curve.specs.declared.constants.Power.{Power}
 use Rattle.curve.specs.declared.constants.Power.the-variants.{Fiftieth, First, Second}
 use Rattle.curve.specs.declared.constants.Constants.{Constants}
 
--- The power a is 0.02, a fiftieth, or 1, or 2.
--- a row of the table: the operation's number, and its constants
+-- a row of the table: the operation's number, and its constants; the power a is 0.02, a fiftieth, or 1, or 2
 pub record Row : Type 0 where
   pub op : ℕ
   pub numbers : Constants

@@ -2,22 +2,20 @@
 use Prim.Native.Nat.{ℕ, _+_, _-_, _*_}
 use mathlib.Core.Bool.{Bool, cond, _&&_}
 use lib.Dec.{leb}
+use Rattle.checks.specs.Range.{inRange}
 use Rattle.curve.specs.declared.constants.Power.{Power}
 use Rattle.curve.specs.declared.constants.Power.the-variants.{Fiftieth, First, Second}
 use Rattle.curve.specs.Constants.{constantsOf}
 use Rattle.curve.specs.Rounding.{roundedUp}
 use Rattle.curve.specs.Power.{X}
 
-abbrev pub between : ℕ → ℕ → ℕ → Bool
-between low high n = leb low n && leb n high
-
 -- where the paper gives an operate time: operations 2 to 12, "m from 101 to 2000"
 abbrev pub hasOperateTime : ℕ → ℕ → Bool
-hasOperateTime op m = between 2 12 op && between 101 2000 m
+hasOperateTime op m = inRange 2 12 op && inRange 101 2000 m
 
 -- where it gives a reset time: the ANSI curves 6 to 12, "m from 0 to 99"
 abbrev pub hasResetTime : ℕ → ℕ → Bool
-hasResetTime op m = between 6 12 op && leb m 99
+hasResetTime op m = inRange 6 12 op && leb m 99
 
 -- "rounded up: a = 1: k x 10,000 / (m - 100); a = 2: k x 1,000,000 / (m x m - 10,000); a = 0.02: k x X(m) / 10,000"
 abbrev pub inversePart : Power → ℕ → ℕ → ℕ

@@ -11,6 +11,5 @@ mod time;
 pub use gain::gain_of;
 pub use gain::loss_of;
 pub use ratio::ratio_of;
-pub use rounding::quotient;
 pub use time::operate_time;
 pub use time::reset_time;

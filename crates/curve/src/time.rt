@@ -1,17 +1,11 @@
 // The operate and the reset time in microseconds.
 ghost use mathlib.Core.Path.{_≡_};
 ghost use Prim.Native.Nat.{_≤_, _^_};
-ghost use Rattle.curve.specs.Time.{between, inversePart, operateTime, resetPart, resetTime};
+ghost use Rattle.curve.specs.Time.{inversePart, operateTime, resetPart, resetTime};
 use crate::constants::Power;
 use crate::constants::constants_of;
 use crate::power::x_of;
 use crate::rounding::round_up;
-
-fn between(low: u32, high: u32, n: u32) -> bool
-    ensures { λ r. ⌜ r ≡ between low high n ⌝ }
-{
-    if low <= n { n <= high } else { false }
-}
 
 // What a curve with the power a and the constant k adds to c at a ratio m.
 fn inverse_part(a: Power, k: u64, m: u32) -> u64
@@ -26,18 +20,38 @@ fn inverse_part(a: Power, k: u64, m: u32) -> u64
     }
 }
 
+// T by the formula of the operation: the IEC curves have no c.
+fn time_by_formula(operation: u32, ratio: u32) -> u64
+    requires { ⌜ (101 ≤ ratio) × (ratio ≤ 2000) ⌝ }
+    ensures { λ r. ⌜ r ≡ operateTime operation ratio ⌝ }
+{
+    match operation {
+        0 => 0,
+        1 => 0,
+        2..=5 => {
+            let iec = constants_of(operation);
+            let a = iec.a;
+            inverse_part(a, iec.k, ratio)
+        }
+        6..=12 => {
+            let ansi = constants_of(operation);
+            let a = ansi.a;
+            ansi.c + inverse_part(a, ansi.k, ratio)
+        }
+        _ => 0,
+    }
+}
+
 // The operate time T at multiplier 1; 0 where there is none.
 pub fn operate_time(operation: u32, ratio: u32) -> u64
     ensures { λ r. ⌜ r ≡ operateTime operation ratio ⌝ }
 {
-    if between(2, 12, operation) {
-        if between(101, 2000, ratio) {
-            let row = constants_of(operation);
-            let a = row.a;
-            return row.c + inverse_part(a, row.k, ratio);
-        }
+    match ratio {
+        0..=99 => 0,
+        100 => 0,
+        101..=2000 => time_by_formula(operation, ratio),
+        _ => 0,
     }
-    0
 }
 
 // What an ANSI curve with the constant kr takes to reset at a ratio m.
@@ -49,15 +63,31 @@ fn reset_part(kr: u64, m: u32) -> u64
     round_up(kr * 1000000, 10000 - ratio * ratio)
 }
 
+// The reset time by the reset rule of the operation: only the ANSI curves have one.
+fn reset_by_rule(operation: u32, ratio: u32) -> u64
+    requires { ⌜ ratio ≤ 99 ⌝ }
+    ensures { λ r. ⌜ r ≡ resetTime operation ratio ⌝ }
+{
+    match operation {
+        0 => 0,
+        1 => 0,
+        2..=5 => 0,
+        6..=12 => {
+            let ansi = constants_of(operation);
+            reset_part(ansi.kr, ratio)
+        }
+        _ => 0,
+    }
+}
+
 // The reset time of an ANSI curve; 0 where there is none.
 pub fn reset_time(operation: u32, ratio: u32) -> u64
     ensures { λ r. ⌜ r ≡ resetTime operation ratio ⌝ }
 {
-    if between(6, 12, operation) {
-        if ratio <= 99 {
-            let row = constants_of(operation);
-            return reset_part(row.kr, ratio);
-        }
+    match ratio {
+        0..=99 => reset_by_rule(operation, ratio),
+        100 => 0,
+        101..=2000 => 0,
+        _ => 0,
     }
-    0
 }

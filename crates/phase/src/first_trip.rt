@@ -49,7 +49,7 @@ fn first_full(n: u32, wait: u64, level: u64, sum: u64, gain: u64) -> u32
         }
         return one_of(n, wait);
     }
-    let turns = curve::quotient(lacking(level, sum) + (gain - 1), gain);
+    let turns = (lacking(level, sum) + (gain - 1)) / gain;
     one_of(n, larger(wait, turns))
 }
 

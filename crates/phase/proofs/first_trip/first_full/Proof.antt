@@ -5,8 +5,8 @@ use native.Mathlib.Omega.{arith}
 use mathlib.Core.Path.{_≡_, _∙_, ap}
 use borrow.Author.Needs.{needs}
 use borrow.Author.Tests.{eq-eqb, ne-eqb, lt-ltb, le-ltb}
-use Rattle.phase.proofs.FirstTrips.{no-turns}
 use Rattle.phase.specs.Closed.{turns, oneOf}
+use Rattle.phase.proofs.FirstTrips.{no-turns}
 use Rattle.phase.proofs.first_trip.first_full.Statement.{statement}
 use Rattle.phase.proofs.first_trip.first_full.Tie as tie
 
@@ -26,14 +26,14 @@ returns-2 c =
 lacking-requires : tie.Need-lacking-requires
 lacking-requires c κs = search needs
 
-sub-quotient : tie.Need-sub-quotient
-sub-quotient c = search needs
+sub-turns : tie.Need-sub-turns
+sub-turns c = search needs
 
-add-quotient : tie.Need-add-quotient
-add-quotient c = search needs
+add-turns : tie.Need-add-turns
+add-turns c = search needs
 
-quotient-requires : tie.Need-quotient-requires
-quotient-requires c κs = search needs
+div-turns : tie.Need-div-turns
+div-turns c = search needs
 
 larger-requires : tie.Need-larger-requires
 larger-requires c κs = search needs
@@ -43,10 +43,10 @@ one-of-requires-2 c κs = search needs
 
 returns-3 : tie.Need-returns-3
 returns-3 c =
-    let a = c .before .before .before .before .before .args in
+    let a = c .before .before .before .before .args in
     let last : c .before .larger .result ≡ max (a .wait) (turns (a .level) (a .sum) (a .gain)) =
-    c .before .larger .ensures ∙ ap (max (a .wait)) (c .before .before .quotient .ensures ∙ ap (λ d. (d + (a .gain - 1)) / a .gain) (c .before .before .before .lacking .ensures)) in
-    rw (ne-eqb _ 0 (c .before .before .before .before .if1 .left)) (c .one-of2 .ensures ∙ ap (oneOf (a .n)) last)
+    c .before .larger .ensures ∙ ap (λ d. max (a .wait) ((d + (a .gain - 1)) / a .gain)) (c .before .before .lacking .ensures) in
+    rw (ne-eqb _ 0 (c .before .before .before .if1 .left)) (c .one-of2 .ensures ∙ ap (oneOf (a .n)) last)
 
 pub first-full-spec : {M : Type 1} → statement M
 first-full-spec =
@@ -56,9 +56,9 @@ first-full-spec =
     one-of-requires
     returns-2
     lacking-requires
-    sub-quotient
-    add-quotient
-    quotient-requires
+    sub-turns
+    add-turns
+    div-turns
     larger-requires
     one-of-requires-2
     returns-3)
