@@ -12,7 +12,7 @@ use Rattle.curve.specs.Time.{operateTime, resetTime}
 use Rattle.phase.specs.declared.jump.TripTick.{TripTick}
 use Rattle.phase.specs.declared.jump.TripTick.the-variants.{At, None}
 use Rattle.phase.specs.declared.settings.Settings.{Settings}
-use Rattle.phase.specs.Closed.{firstTripBy}
+use Rattle.phase.specs.device.Closed.{firstTripBy}
 use Rattle.phase.specs.Jump.{tripTick, jumpAnswer, jumpRefusal}
 use Rattle.phase.specs.Operation.{kindOf}
 use Rattle.phase.specs.State.{clearState, valid}

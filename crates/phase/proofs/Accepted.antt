@@ -13,8 +13,9 @@ use Rattle.phase.specs.declared.settings.Settings.{Settings}
 use Rattle.phase.specs.declared.state.PhaseState.{PhaseState}
 use Rattle.phase.specs.Jump.{jumpLimit, jumpRefusal, jumpOf, refusedJump, jumpAnswer}
 use Rattle.phase.specs.Operation.{kindOf}
-use Rattle.phase.specs.Pace.{paceOf, Ready}
-use Rattle.phase.specs.Settings.{InRange, settingsChecks, settingsRefusal, tripLevel}
+use Rattle.phase.specs.device.Pace.{paceOf, Ready}
+use Rattle.phase.specs.Settings.{settingsChecks, settingsRefusal, tripLevel}
+use Rattle.phase.specs.device.Ranges.{InRange}
 use Rattle.phase.specs.State.{runLimit, valid, validCounts, validFor}
 use Rattle.phase.specs.Tick.{tickRefusal, tickOf, refusedTick, tickAnswer}
 

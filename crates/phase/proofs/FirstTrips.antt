@@ -9,15 +9,18 @@ use borrow.Author.Tests.{leb-true, leb-false, le-leb, lt-leb, ltb-true, ltb-fals
 use lib.Dec.{leb, ltb, eqb, eqb·suc-zero}
 use Rattle.checks.proofs.Tests.{leb-iff}
 use Rattle.phase.specs.declared.operation.Kind.{Kind}
-use Rattle.phase.specs.declared.operation.Kind.the-variants.{Off, Definite, Iec, Ansi}
+use Rattle.phase.specs.declared.operation.Kind.the-variants.{Off, On}
+use Rattle.phase.specs.declared.operation.Timing.{Timing}
+use Rattle.phase.specs.declared.operation.Timing.the-variants.{Definite, Curve}
 use Rattle.phase.specs.declared.settings.Settings.{Settings}
 use Rattle.phase.specs.declared.state.PhaseState.{PhaseState}
-use Rattle.phase.specs.Closed.{afterBy, oneOf, waitFor, turns, firstFull, firstDue, firstTripBy}
+use Rattle.phase.specs.device.Closed.{advanceBy, oneOf, waitFor, turns, firstFull, firstDue, firstTripBy}
 use Rattle.phase.specs.Jump.{stateAfter, firstOf, orLast, tripAt, firstTrip}
 use Rattle.phase.specs.Operation.{kindOf}
-use Rattle.phase.specs.Settings.{InRange, tripLevel}
+use Rattle.phase.specs.Settings.{tripLevel}
+use Rattle.phase.specs.device.Ranges.{InRange}
 use Rattle.phase.specs.State.{runLimit}
-use Rattle.phase.specs.Tick.{gainAt, started, nextState, phaseTrip, due}
+use Rattle.phase.specs.Tick.{gainAt, started, nextState, phaseTrip, due, tripBy}
 use Rattle.phase.proofs.Walk.{closedAfter, started-stays, ticks-closed}
 
 -- ---- tests
@@ -111,31 +114,28 @@ full-first level sum (suc gain) run delay n small =
     rw (eqb·suc-zero gain)
     (first-at _ _ n (omega arith) (λ k. full-test level sum (suc gain) run delay k small (omega arith)))
 
-due-first : (kind : Kind) (settings : Settings) (g n : ℕ) (state : PhaseState) → InRange settings → firstOf (λ (k : ℕ). due kind settings (afterBy kind true settings g k state)) n ≡ firstDue kind settings g n state
-due-first Off settings g n state range = first-none _ n (λ k. refl)
+due-first : (timing : Timing) (settings : Settings) (g n : ℕ) (state : PhaseState) → InRange settings → firstOf (λ (k : ℕ). due timing settings (advanceBy (On timing) true settings g k state)) n ≡ firstDue timing settings g n state
 due-first Definite settings g n state range =
     delay-first (settings .«definite_delay») (state .run) n (range .definite-high)
-due-first Iec settings g n state range =
-    full-first (tripLevel settings) (state .sum) (gainAt settings g) (state .run) (settings .«minimum_delay») n (range .minimum-high)
-due-first Ansi settings g n state range =
+due-first (Curve rule) settings g n state range =
     full-first (tripLevel settings) (state .sum) (gainAt settings g) (state .run) (settings .«minimum_delay») n (range .minimum-high)
 
-trip-first : (b allowed : Bool) (kind : Kind) (settings : Settings) (g n : ℕ) (state : PhaseState) → InRange settings → firstOf (λ (k : ℕ). b && allowed && due kind settings (afterBy kind b settings g k state)) n ≡ cond (b && allowed) (firstDue kind settings g n state) 0
-trip-first true true kind settings g n state range = due-first kind settings g n state range
-trip-first true false kind settings g n state range = first-none _ n (λ k. refl)
-trip-first false allowed kind settings g n state range = first-none _ n (λ k. refl)
+trip-first : (kind : Kind) (b allowed : Bool) (settings : Settings) (g n : ℕ) (state : PhaseState) → InRange settings → eqb (settings .«start_only») 0 ≡ allowed → firstOf (λ (k : ℕ). tripBy kind b settings (advanceBy kind b settings g k state)) n ≡ firstTripBy kind b settings g n state
+trip-first Off b allowed settings g n state range e = first-none _ n (λ k. refl)
+trip-first (On timing) false allowed settings g n state range e = first-none _ n (λ k. refl)
+trip-first (On timing) true false settings g n state range e = rw e (first-none _ n (λ k. refl))
+trip-first (On timing) true true settings g n state range e = rw e (due-first timing settings g n state range)
 
 -- the trip at tick k by the closed form
-trip-closed : (settings : Settings) (g : ℕ) (state : PhaseState) (k : ℕ) → tripAt settings g state (suc k) ≡ started settings state g && eqb (settings .«start_only») 0 && due (kindOf (settings .operation)) settings (closedAfter settings g (suc k) state)
+trip-closed : (settings : Settings) (g : ℕ) (state : PhaseState) (k : ℕ) → tripAt settings g state (suc k) ≡ tripBy (kindOf (settings .operation)) (started settings state g) settings (closedAfter settings g (suc k) state)
 unfolding phaseTrip stateAfter
 trip-closed settings g state k =
-    let only = eqb (settings .«start_only») 0 in
-    let isDue = due (kindOf (settings .operation)) settings in
-    ap (λ (b : Bool). b && only && isDue (nextState settings (stateAfter settings g k state) g)) (started-stays settings g k state)
-    ∙ ap (λ (after : PhaseState). started settings state g && only && isDue after) (ticks-closed settings g (suc k) state (omega arith))
+    let kind = kindOf (settings .operation) in
+    ap (λ (b : Bool). tripBy kind b settings (nextState settings (stateAfter settings g k state) g)) (started-stays settings g k state)
+    ∙ ap (λ (after : PhaseState). tripBy kind (started settings state g) settings after) (ticks-closed settings g (suc k) state (omega arith))
 
 pub first-trip-closed : (settings : Settings) (g n : ℕ) (state : PhaseState) → InRange settings → firstTrip settings g n state ≡ firstTripBy (kindOf (settings .operation)) (started settings state g) settings g n state
 unfolding firstTrip
 first-trip-closed settings g n state range =
     first-same _ _ n (trip-closed settings g state)
-    ∙ trip-first (started settings state g) (eqb (settings .«start_only») 0) (kindOf (settings .operation)) settings g n state range
+    ∙ trip-first (kindOf (settings .operation)) (started settings state g) (eqb (settings .«start_only») 0) settings g n state range refl

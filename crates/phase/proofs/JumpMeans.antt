@@ -12,7 +12,7 @@ use Rattle.phase.specs.declared.jump.TripTick.the-variants.{At, None}
 use Rattle.phase.specs.declared.settings.Settings.{Settings}
 use Rattle.phase.specs.declared.state.PhaseState.{PhaseState}
 use Rattle.phase.specs.declared.tick.Ticked.{Ticked}
-use Rattle.phase.specs.Closed.{firstTripBy}
+use Rattle.phase.specs.device.Closed.{firstTripBy}
 use Rattle.phase.specs.Jump.{stateAfter, firstOf, orLast, tripAt, firstTrip, tripTick, jumpRefusal, jumpAnswer}
 use Rattle.phase.specs.Operation.{kindOf}
 use Rattle.phase.specs.Tick.{started, tickRefusal, tickAnswer}

@@ -9,7 +9,10 @@ use borrow.Author.Tests.{leb-true, le-leb, eq-eqb}
 use lib.Dec.{leb, eqb}
 use Rattle.checks.proofs.Tests.{both-true}
 use Rattle.phase.specs.declared.operation.Kind.{Kind}
-use Rattle.phase.specs.declared.operation.Kind.the-variants.{Off, Definite, Iec, Ansi}
+use Rattle.phase.specs.declared.operation.Kind.the-variants.{Off, On}
+use Rattle.phase.specs.declared.operation.ResetRule.the-variants.{Iec, Ansi}
+use Rattle.phase.specs.declared.operation.Timing.{Timing}
+use Rattle.phase.specs.declared.operation.Timing.the-variants.{Definite, Curve}
 use Rattle.phase.specs.declared.settings.Settings.{Settings}
 use Rattle.phase.specs.declared.state.PhaseState.{PhaseState}
 use Rattle.phase.specs.Jump.{stateAfter}
@@ -35,27 +38,29 @@ cleared false sum level h = h
 -- the sum after a tick, by the group of operations
 sum-kept : (kind : Kind) (b : Bool) (settings : Settings) (g : ℕ) (state : PhaseState) → state .sum ≤ tripLevel settings → nextBy kind b settings g state .sum ≤ tripLevel settings
 sum-kept Off b settings g state h = omega arith
-sum-kept Definite true settings g state h = omega arith
-sum-kept Definite false settings g state h = omega arith
-sum-kept Iec true settings g state h = omega arith
-sum-kept Iec false settings g state h = cleared (leb (settings .«reset_time») (countUp (state .drop))) (state .sum) (tripLevel settings) h
-sum-kept Ansi true settings g state h = omega arith
-sum-kept Ansi false settings g state h = omega arith
+sum-kept (On Definite) true settings g state h = omega arith
+sum-kept (On Definite) false settings g state h = omega arith
+sum-kept (On (Curve rule)) true settings g state h = omega arith
+sum-kept (On (Curve Iec)) false settings g state h = cleared (leb (settings .«reset_time») (countUp (state .drop))) (state .sum) (tripLevel settings) h
+sum-kept (On (Curve Ansi)) false settings g state h = omega arith
+
+-- a Definite phase has no sum after a tick either
+valid-after : (timing : Timing) (b : Bool) (settings : Settings) (g : ℕ) (state : PhaseState) → validFor (On timing) (nextBy (On timing) b settings g state) ≡ true
+valid-after Definite true settings g state = refl
+valid-after Definite false settings g state = refl
+valid-after (Curve rule) b settings g state = refl
 
 keeps : (kind : Kind) (b : Bool) (settings : Settings) (g : ℕ) (state : PhaseState) → nextBy kind b settings g state .sum ≤ tripLevel settings → validBy settings kind (nextBy kind b settings g state) ≡ true
 keeps Off b settings g state h = by-parts settings Off clearState h (omega arith) (omega arith) (inl refl) refl
-keeps Definite true settings g state h = by-parts settings Definite (nextBy Definite true settings g state) h (omega arith) (omega arith) (inr refl) refl
-keeps Definite false settings g state h = by-parts settings Definite (nextBy Definite false settings g state) h (omega arith) (omega arith) (inl refl) refl
-keeps Iec true settings g state h = by-parts settings Iec (nextBy Iec true settings g state) h (omega arith) (omega arith) (inr refl) refl
-keeps Iec false settings g state h = by-parts settings Iec (nextBy Iec false settings g state) h (omega arith) (omega arith) (inl refl) refl
-keeps Ansi true settings g state h = by-parts settings Ansi (nextBy Ansi true settings g state) h (omega arith) (omega arith) (inr refl) refl
-keeps Ansi false settings g state h = by-parts settings Ansi (nextBy Ansi false settings g state) h (omega arith) (omega arith) (inl refl) refl
+keeps (On timing) true settings g state h =
+    by-parts settings (On timing) (nextBy (On timing) true settings g state) h (omega arith) (omega arith) (inr refl) (valid-after timing true settings g state)
+keeps (On timing) false settings g state h =
+    by-parts settings (On timing) (nextBy (On timing) false settings g state) h (omega arith) (omega arith) (inl refl) (valid-after timing false settings g state)
 
 zero-for : (kind : Kind) → validFor kind clearState ≡ true
 zero-for Off = refl
-zero-for Definite = refl
-zero-for Iec = refl
-zero-for Ansi = refl
+zero-for (On Definite) = refl
+zero-for (On (Curve rule)) = refl
 
 pub clear-is-valid : (settings : Settings) → valid settings clearState ≡ true
 unfolding valid

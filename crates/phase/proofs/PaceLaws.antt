@@ -7,8 +7,9 @@ use Rattle.curve.proofs.GainLaws.{gain-at-most, loss-at-most}
 use Rattle.phase.specs.declared.pace.Pace.{Pace}
 use Rattle.phase.specs.declared.settings.Settings.{Settings}
 use Rattle.phase.specs.declared.state.PhaseState.{PhaseState}
-use Rattle.phase.specs.Pace.{paceOf, Ready}
-use Rattle.phase.specs.Settings.{InRange, tripLevel}
+use Rattle.phase.specs.device.Pace.{paceOf, Ready}
+use Rattle.phase.specs.Settings.{tripLevel}
+use Rattle.phase.specs.device.Ranges.{InRange}
 
 pub pace-sample : (settings : Settings) (g : ℕ) → paceOf settings g .sample ≡ g
 unfolding paceOf

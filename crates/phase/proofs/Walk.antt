@@ -8,10 +8,12 @@ use mathlib.Core.Path.{_≡_, refl, ap, _∙_}
 use borrow.Author.Tests.{leb-true, le-leb}
 use lib.Dec.{leb}
 use Rattle.phase.specs.declared.operation.Kind.{Kind}
-use Rattle.phase.specs.declared.operation.Kind.the-variants.{Off, Definite, Iec, Ansi}
+use Rattle.phase.specs.declared.operation.Kind.the-variants.{Off, On}
+use Rattle.phase.specs.declared.operation.ResetRule.the-variants.{Iec, Ansi}
+use Rattle.phase.specs.declared.operation.Timing.the-variants.{Definite, Curve}
 use Rattle.phase.specs.declared.settings.Settings.{Settings}
 use Rattle.phase.specs.declared.state.PhaseState.{PhaseState}
-use Rattle.phase.specs.Closed.{afterBy}
+use Rattle.phase.specs.device.Closed.{advanceBy}
 use Rattle.phase.specs.Jump.{stateAfter}
 use Rattle.phase.specs.Operation.{kindOf}
 use Rattle.phase.specs.State.{runLimit}
@@ -44,23 +46,21 @@ dropped-again : (reset drop n sum : ℕ) → cond (leb reset (min (min (drop + n
 dropped-again reset drop n sum =
     rw (count-again drop n) (clear-again reset (min (drop + n) runLimit) (min (drop + suc n) runLimit) sum (omega arith))
 
-once : (kind : Kind) (b : Bool) (settings : Settings) (g : ℕ) (state : PhaseState) → nextBy kind b settings g state ≡ afterBy kind b settings g 1 state
+once : (kind : Kind) (b : Bool) (settings : Settings) (g : ℕ) (state : PhaseState) → nextBy kind b settings g state ≡ advanceBy kind b settings g 1 state
 once Off b settings g state = refl
-once Definite true settings g state = refl
-once Definite false settings g state = refl
-once Iec true settings g state = same-state (omega arith) refl refl
-once Iec false settings g state = refl
-once Ansi true settings g state = same-state (omega arith) refl refl
-once Ansi false settings g state = same-state (omega arith) refl refl
+once (On Definite) true settings g state = refl
+once (On Definite) false settings g state = refl
+once (On (Curve rule)) true settings g state = same-state (omega arith) refl refl
+once (On (Curve Iec)) false settings g state = refl
+once (On (Curve Ansi)) false settings g state = same-state (omega arith) refl refl
 
-again : (kind : Kind) (b : Bool) (settings : Settings) (g n : ℕ) (state : PhaseState) → nextBy kind b settings g (afterBy kind b settings g n state) ≡ afterBy kind b settings g (suc n) state
+again : (kind : Kind) (b : Bool) (settings : Settings) (g n : ℕ) (state : PhaseState) → nextBy kind b settings g (advanceBy kind b settings g n state) ≡ advanceBy kind b settings g (suc n) state
 again Off b settings g n state = refl
-again Definite true settings g n state = same-state refl (count-again _ _) refl
-again Definite false settings g n state = same-state refl refl (count-again _ _)
-again Iec true settings g n state = same-state (fill-again _ _ _ _) (count-again _ _) refl
-again Iec false settings g n state = same-state (dropped-again (settings .«reset_time») (state .drop) n (state .sum)) refl (count-again _ _)
-again Ansi true settings g n state = same-state (fill-again _ _ _ _) (count-again _ _) refl
-again Ansi false settings g n state = same-state (drain-again _ _ _) refl (count-again _ _)
+again (On Definite) true settings g n state = same-state refl (count-again _ _) refl
+again (On Definite) false settings g n state = same-state refl refl (count-again _ _)
+again (On (Curve rule)) true settings g n state = same-state (fill-again _ _ _ _) (count-again _ _) refl
+again (On (Curve Iec)) false settings g n state = same-state (dropped-again (settings .«reset_time») (state .drop) n (state .sum)) refl (count-again _ _)
+again (On (Curve Ansi)) false settings g n state = same-state (drain-again _ _ _) refl (count-again _ _)
 
 -- ---- the walk
 
@@ -70,7 +70,7 @@ unfolding started
 started-stays settings g n state = refl
 
 abbrev pub closedAfter : Settings → ℕ → ℕ → PhaseState → PhaseState
-closedAfter settings g n state = afterBy (kindOf (settings .operation)) (started settings state g) settings g n state
+closedAfter settings g n state = advanceBy (kindOf (settings .operation)) (started settings state g) settings g n state
 
 from-one : (settings : Settings) (g n : ℕ) (state : PhaseState) → stateAfter settings g (suc n) state ≡ closedAfter settings g (suc n) state
 unfolding stateAfter nextState

@@ -4,5 +4,4 @@ pub mod Settings
 pub mod State
 pub mod Tick
 pub mod Jump
-pub mod Pace
-pub mod Closed
+pub mod device

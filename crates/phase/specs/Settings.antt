@@ -1,5 +1,5 @@
 -- The settings (01, 'Settings').
-use Prim.Native.Nat.{ℕ, _*_, _^_, _≤_}
+use Prim.Native.Nat.{ℕ, _*_, _^_}
 use mathlib.Core.List.{List, [], _∷_}
 use Rattle.checks.specs.Checks.{Check, check, lowest}
 use Rattle.checks.specs.Range.{inRange}
@@ -38,18 +38,3 @@ settingsRefusal settings = lowest (settingsChecks settings)
 -- "The trip level is M x 10^9."
 abbrev pub tripLevel : Settings → ℕ
 tripLevel settings = settings .«time_multiplier» * 10 ^ 9
-
--- what the code and its proofs go by: settings that the check accepts (`settings-passed` of `proofs/`)
-pub record InRange (settings : Settings) : Type 0 where
-  pub operation : settings .operation ≤ 12
-  pub start-low : 10 ≤ settings .«start_current»
-  pub start-high : settings .«start_current» ≤ 3000
-  pub multiplier-low : 5 ≤ settings .«time_multiplier»
-  pub multiplier-high : settings .«time_multiplier» ≤ 1500
-  pub minimum-low : 40 ≤ settings .«minimum_delay»
-  pub minimum-high : settings .«minimum_delay» ≤ 60000
-  pub definite-low : 40 ≤ settings .«definite_delay»
-  pub definite-high : settings .«definite_delay» ≤ 60000
-  pub reset-low : 60 ≤ settings .«reset_time»
-  pub reset-high : settings .«reset_time» ≤ 60000
-  pub only : settings .«start_only» ≤ 1

@@ -3,7 +3,8 @@ use Prim.Native.Nat.{ℕ}
 use mathlib.Core.Bool.{Bool, true, _&&_, _||_}
 use lib.Dec.{leb, eqb}
 use Rattle.phase.specs.declared.operation.Kind.{Kind}
-use Rattle.phase.specs.declared.operation.Kind.the-variants.{Off, Definite, Iec, Ansi}
+use Rattle.phase.specs.declared.operation.Kind.the-variants.{Off, On}
+use Rattle.phase.specs.declared.operation.Timing.the-variants.{Definite, Curve}
 use Rattle.phase.specs.declared.settings.Settings.{Settings}
 use Rattle.phase.specs.declared.state.PhaseState.{PhaseState}
 use Rattle.phase.specs.Operation.{kindOf}
@@ -25,9 +26,8 @@ validCounts state =
 -- "sum is 0 for Definite; all three are 0 for Off"
 abbrev pub validFor : Kind → PhaseState → Bool
 validFor Off state = eqb (state .sum) 0 && eqb (state .run) 0 && eqb (state .drop) 0
-validFor Definite state = eqb (state .sum) 0
-validFor Iec state = true
-validFor Ansi state = true
+validFor (On Definite) state = eqb (state .sum) 0
+validFor (On (Curve rule)) state = true
 
 -- "Valid: sum at most the trip level; .."
 unfoldable pub valid : Settings → PhaseState → Bool

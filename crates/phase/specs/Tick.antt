@@ -7,7 +7,10 @@ use Rattle.checks.specs.Checks.{Check, check, lowest}
 use Rattle.curve.specs.Gain.{gainOf, lossOf}
 use Rattle.curve.specs.Ratio.{ratioOf}
 use Rattle.phase.specs.declared.operation.Kind.{Kind}
-use Rattle.phase.specs.declared.operation.Kind.the-variants.{Off, Definite, Iec, Ansi}
+use Rattle.phase.specs.declared.operation.Kind.the-variants.{Off, On}
+use Rattle.phase.specs.declared.operation.ResetRule.the-variants.{Iec, Ansi}
+use Rattle.phase.specs.declared.operation.Timing.{Timing}
+use Rattle.phase.specs.declared.operation.Timing.the-variants.{Definite, Curve}
 use Rattle.phase.specs.declared.settings.Settings.{Settings}
 use Rattle.phase.specs.declared.state.PhaseState.{PhaseState}
 use Rattle.phase.specs.declared.tick.Ticked.{Ticked}
@@ -24,7 +27,6 @@ abbrev pub lossAt : Settings → ℕ → ℕ
 lossAt settings g = lossOf (settings .operation) (ratioOf g (settings .«start_current»))
 
 -- 2. "Started exactly when g is greater than 100 x s."
--- The state is an argument although this rule does not look at it: a later rule does (02, E3).
 unfoldable pub started : Settings → PhaseState → ℕ → Bool
 started settings state g = ltb (100 * settings .«start_current») g
 
@@ -32,68 +34,60 @@ started settings state g = ltb (100 * settings .«start_current») g
 abbrev pub countUp : ℕ → ℕ
 countUp n = min (n + 1) runLimit
 
--- 3. "a curve's sum goes up by the gain (stops at the trip level)". Off has nothing above 0, and "Definite has no sum".
-abbrev pub sumUp : Kind → Settings → ℕ → ℕ → ℕ
-sumUp Off settings g sum = 0
+-- 3. "a curve's sum goes up by the gain (stops at the trip level)"; "Definite has no sum"
+abbrev pub sumUp : Timing → Settings → ℕ → ℕ → ℕ
 sumUp Definite settings g sum = 0
-sumUp Iec settings g sum = min (sum + gainAt settings g) (tripLevel settings)
-sumUp Ansi settings g sum = min (sum + gainAt settings g) (tripLevel settings)
+sumUp (Curve rule) settings g sum = min (sum + gainAt settings g) (tripLevel settings)
 
 -- 3. "Started: run goes up by 1 (stops at 60,000), drop becomes 0, a curve's sum goes up .."
-abbrev pub afterStarted : Kind → Settings → ℕ → PhaseState → PhaseState
-afterStarted kind settings g state =
-    record { sum = sumUp kind settings g (state .sum); run = countUp (state .run); drop = 0 }
+abbrev pub afterStarted : Timing → Settings → ℕ → PhaseState → PhaseState
+afterStarted timing settings g state =
+    record { sum = sumUp timing settings g (state .sum); run = countUp (state .run); drop = 0 }
 
 -- 4. "IEC curves: sum becomes 0 once the new drop is at least the reset time, else it is kept.
 -- ANSI curves: sum goes down by the loss (stops at 0). Definite has no sum."
-abbrev pub sumDown : Kind → Settings → ℕ → ℕ → ℕ → ℕ
-sumDown Off settings g newDrop sum = 0
+abbrev pub sumDown : Timing → Settings → ℕ → ℕ → ℕ → ℕ
 sumDown Definite settings g newDrop sum = 0
-sumDown Iec settings g newDrop sum = cond (leb (settings .«reset_time») newDrop) 0 sum
-sumDown Ansi settings g newDrop sum = sum - lossAt settings g
+sumDown (Curve Iec) settings g newDrop sum = cond (leb (settings .«reset_time») newDrop) 0 sum
+sumDown (Curve Ansi) settings g newDrop sum = sum - lossAt settings g
 
 -- 4. "Not started: run becomes 0, drop goes up by 1 (stops at 60,000). .."
-abbrev pub afterIdle : Kind → Settings → ℕ → PhaseState → PhaseState
-afterIdle kind settings g state =
-    record { sum = sumDown kind settings g (countUp (state .drop)) (state .sum); run = 0; drop = countUp (state .drop) }
+abbrev pub afterIdle : Timing → Settings → ℕ → PhaseState → PhaseState
+afterIdle timing settings g state =
+    record { sum = sumDown timing settings g (countUp (state .drop)) (state .sum); run = 0; drop = countUp (state .drop) }
 
-abbrev pub moved : Bool → Kind → Settings → ℕ → PhaseState → PhaseState
-moved true kind settings g state = afterStarted kind settings g state
-moved false kind settings g state = afterIdle kind settings g state
-
--- 1. "Off: everything stays 0 and off."
+-- 1. "Off: everything stays 0 and off.", else 3. or 4.
 abbrev pub nextBy : Kind → Bool → Settings → ℕ → PhaseState → PhaseState
 nextBy Off isStarted settings g state = clearState
-nextBy Definite isStarted settings g state = moved isStarted Definite settings g state
-nextBy Iec isStarted settings g state = moved isStarted Iec settings g state
-nextBy Ansi isStarted settings g state = moved isStarted Ansi settings g state
+nextBy (On timing) true settings g state = afterStarted timing settings g state
+nextBy (On timing) false settings g state = afterIdle timing settings g state
 
 -- the state after a tick
 unfoldable pub nextState : Settings → PhaseState → ℕ → PhaseState
 nextState settings state g = nextBy (kindOf (settings .operation)) (started settings state g) settings g state
 
--- the start output: rule 2, and by rule 1 off for Off
+-- the start output: 1., else 2.
 abbrev pub startBy : Kind → Bool → Bool
 startBy Off isStarted = false
-startBy Definite isStarted = isStarted
-startBy Iec isStarted = isStarted
-startBy Ansi isStarted = isStarted
+startBy (On timing) isStarted = isStarted
 
 unfoldable pub phaseStart : Settings → PhaseState → ℕ → Bool
 phaseStart settings state g = startBy (kindOf (settings .operation)) (started settings state g)
 
 -- 5. "for Definite, run at least the definite delay; for a curve, sum at the trip level and run at least the minimum delay",
 -- of the state after the tick, whose sum stops at the trip level
-abbrev pub due : Kind → Settings → PhaseState → Bool
-due Off settings after = false
+abbrev pub due : Timing → Settings → PhaseState → Bool
 due Definite settings after = leb (settings .«definite_delay») (after .run)
-due Iec settings after = leb (tripLevel settings) (after .sum) && leb (settings .«minimum_delay») (after .run)
-due Ansi settings after = leb (tripLevel settings) (after .sum) && leb (settings .«minimum_delay») (after .run)
+due (Curve rule) settings after = leb (tripLevel settings) (after .sum) && leb (settings .«minimum_delay») (after .run)
 
--- 5. "Phase trip: started, start only is 0, and, .."
+-- the trip output: 1., else 5. "Phase trip: started, start only is 0, and, .."
+abbrev pub tripBy : Kind → Bool → Settings → PhaseState → Bool
+tripBy Off isStarted settings after = false
+tripBy (On timing) isStarted settings after = isStarted && eqb (settings .«start_only») 0 && due timing settings after
+
 unfoldable pub phaseTrip : Settings → PhaseState → ℕ → Bool
 phaseTrip settings state g =
-    started settings state g && eqb (settings .«start_only») 0 && due (kindOf (settings .operation)) settings (nextState settings state g)
+    tripBy (kindOf (settings .operation)) (started settings state g) settings (nextState settings state g)
 
 -- a call with settings and a state is refused by 1 to 8
 abbrev pub phaseChecks : Settings → PhaseState → List Check

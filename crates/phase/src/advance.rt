@@ -1,19 +1,21 @@
 // The state after n equal ticks at once, with no loop. A single tick is n = 1.
 ghost use mathlib.Core.Path.{_≡_};
 ghost use Prim.Native.Nat.{_+_, _*_, _-_, _≤_, min};
-ghost use Rattle.phase.specs.Closed.{countAfter, sumUpAfter, sumDownAfter, movedAfter, afterBy};
+ghost use Rattle.phase.specs.device.Closed.{countAfter, sumUpAfter, sumDownAfter, advanceBy};
 ghost use Rattle.phase.specs.Jump.{jumpLimit};
-ghost use Rattle.phase.specs.Pace.{Ready};
-ghost use Rattle.phase.specs.Settings.{InRange};
+ghost use Rattle.phase.specs.device.Pace.{Ready};
+ghost use Rattle.phase.specs.device.Ranges.{InRange};
 ghost use Rattle.phase.specs.State.{runLimit};
 ghost use Rattle.phase.specs.Tick.{started};
 use crate::operation::Kind;
+use crate::operation::ResetRule;
+use crate::operation::Timing;
 use crate::pace::Pace;
 use crate::settings::Settings;
 use crate::settings::trip_level;
 use crate::state::PhaseState;
 
-// Whether a tick with this sample is started. The rule may come to look at the state, so it is asked for.
+// Whether a tick with this sample is started.
 pub(crate) fn is_started(settings: Settings, state: PhaseState, sample: u32) -> bool
     requires { ⌜ InRange settings ⌝ }
     ensures { λ r. ⌜ r ≡ started settings state sample ⌝ }
@@ -52,20 +54,18 @@ fn drained(sum: u64, loss: u64, n: u32) -> u64
     if total < sum { sum - total } else { 0 }
 }
 
-fn sum_up_after(kind: Kind, settings: Settings, pace: Pace, n: u32, state: PhaseState) -> u64
+fn sum_up_after(timing: Timing, settings: Settings, pace: Pace, n: u32, state: PhaseState) -> u64
     requires { ⌜ Ready settings pace state × (n ≤ jumpLimit) ⌝ }
-    ensures { λ r. ⌜ r ≡ sumUpAfter kind settings (pace .sample) n (state .sum) ⌝ }
+    ensures { λ r. ⌜ r ≡ sumUpAfter timing settings (pace .sample) n (state .sum) ⌝ }
 {
-    match kind {
-        Kind::Off => 0,
-        Kind::Definite => 0,
-        Kind::Iec => filled(state.sum, pace.gain, trip_level(settings), n),
-        Kind::Ansi => filled(state.sum, pace.gain, trip_level(settings), n),
+    match timing {
+        Timing::Definite => 0,
+        Timing::Curve(_) => filled(state.sum, pace.gain, trip_level(settings), n),
     }
 }
 
-fn sum_down_after(
-    kind: Kind,
+fn curve_down_after(
+    rule: ResetRule,
     settings: Settings,
     pace: Pace,
     n: u32,
@@ -73,31 +73,52 @@ fn sum_down_after(
     state: PhaseState,
 ) -> u64
     requires { ⌜ Ready settings pace state × (n ≤ jumpLimit) ⌝ }
-    ensures { λ r. ⌜ r ≡ sumDownAfter kind settings (pace .sample) n drop (state .sum) ⌝ }
+    ensures { λ r. ⌜ r ≡ sumDownAfter (Timing.Curve rule) settings (pace .sample) n drop (state .sum) ⌝ }
 {
-    match kind {
-        Kind::Off => 0,
-        Kind::Definite => 0,
-        Kind::Iec => if settings.reset_time <= drop {
+    match rule {
+        ResetRule::Iec => if settings.reset_time <= drop {
             0
         } else {
             state.sum
         },
-        Kind::Ansi => drained(state.sum, pace.loss, n),
+        ResetRule::Ansi => drained(state.sum, pace.loss, n),
     }
 }
 
-fn moved_after(kind: Kind, settings: Settings, pace: Pace, n: u32, state: PhaseState) -> PhaseState
+fn sum_down_after(
+    timing: Timing,
+    settings: Settings,
+    pace: Pace,
+    n: u32,
+    drop: u32,
+    state: PhaseState,
+) -> u64
     requires { ⌜ Ready settings pace state × (n ≤ jumpLimit) ⌝ }
-    ensures { λ r. ⌜ r ≡ movedAfter (started settings state (pace .sample)) kind settings (pace .sample) n state ⌝ }
+    ensures { λ r. ⌜ r ≡ sumDownAfter timing settings (pace .sample) n drop (state .sum) ⌝ }
+{
+    match timing {
+        Timing::Definite => 0,
+        Timing::Curve(rule) => curve_down_after(rule, settings, pace, n, drop, state),
+    }
+}
+
+fn advance_on(
+    timing: Timing,
+    settings: Settings,
+    pace: Pace,
+    n: u32,
+    state: PhaseState,
+) -> PhaseState
+    requires { ⌜ Ready settings pace state × (n ≤ jumpLimit) ⌝ }
+    ensures { λ r. ⌜ r ≡ advanceBy (Kind.On timing) (started settings state (pace .sample)) settings (pace .sample) n state ⌝ }
 {
     if is_started(settings, state, pace.sample) {
-        let sum = sum_up_after(kind, settings, pace, n, state);
+        let sum = sum_up_after(timing, settings, pace, n, state);
         let run = count_after(n, state.run);
         PhaseState { sum, run, drop: 0 }
     } else {
         let drop = count_after(n, state.drop);
-        let sum = sum_down_after(kind, settings, pace, n, drop, state);
+        let sum = sum_down_after(timing, settings, pace, n, drop, state);
         PhaseState { sum, run: 0, drop }
     }
 }
@@ -111,12 +132,10 @@ pub(crate) fn advance(
     state: PhaseState,
 ) -> PhaseState
     requires { ⌜ Ready settings pace state × (n ≤ jumpLimit) ⌝ }
-    ensures { λ r. ⌜ r ≡ afterBy kind (started settings state (pace .sample)) settings (pace .sample) n state ⌝ }
+    ensures { λ r. ⌜ r ≡ advanceBy kind (started settings state (pace .sample)) settings (pace .sample) n state ⌝ }
 {
     match kind {
         Kind::Off => PhaseState::clear(),
-        Kind::Definite => moved_after(kind, settings, pace, n, state),
-        Kind::Iec => moved_after(kind, settings, pace, n, state),
-        Kind::Ansi => moved_after(kind, settings, pace, n, state),
+        Kind::On(timing) => advance_on(timing, settings, pace, n, state),
     }
 }

@@ -1,11 +1,12 @@
 // The first of n equal ticks with the phase trip on, with no loop; 0 stands for none.
 ghost use mathlib.Core.Path.{_≡_};
 ghost use Prim.Native.Nat.{_-_, _≤_, max};
-ghost use Rattle.phase.specs.Closed.{oneOf, waitFor, firstFull, firstCurve, firstDue, firstTripBy};
-ghost use Rattle.phase.specs.Pace.{Ready};
+ghost use Rattle.phase.specs.device.Closed.{oneOf, waitFor, firstFull, firstDue, firstTripBy};
+ghost use Rattle.phase.specs.device.Pace.{Ready};
 ghost use Rattle.phase.specs.Tick.{started};
 use crate::advance::is_started;
 use crate::operation::Kind;
+use crate::operation::Timing;
 use crate::pace::Pace;
 use crate::settings::Settings;
 use crate::settings::trip_level;
@@ -53,24 +54,29 @@ fn first_full(n: u32, wait: u64, level: u64, sum: u64, gain: u64) -> u32
     one_of(n, larger(wait, turns))
 }
 
-fn first_curve(settings: Settings, pace: Pace, n: u32, state: PhaseState) -> u32
+fn first_due(timing: Timing, settings: Settings, pace: Pace, n: u32, state: PhaseState) -> u32
     requires { ⌜ Ready settings pace state ⌝ }
-    ensures { λ r. ⌜ r ≡ firstCurve settings (pace .sample) n state ⌝ }
+    ensures { λ r. ⌜ r ≡ firstDue timing settings (pace .sample) n state ⌝ }
 {
-    let wait = wait_for(settings.minimum_delay, state.run);
-    first_full(n, wait, trip_level(settings), state.sum, pace.gain)
+    match timing {
+        Timing::Definite => one_of(n, wait_for(settings.definite_delay, state.run)),
+        Timing::Curve(_) => {
+            let wait = wait_for(settings.minimum_delay, state.run);
+            first_full(n, wait, trip_level(settings), state.sum, pace.gain)
+        }
+    }
 }
 
-fn first_due(kind: Kind, settings: Settings, pace: Pace, n: u32, state: PhaseState) -> u32
+fn first_trip_on(timing: Timing, settings: Settings, pace: Pace, n: u32, state: PhaseState) -> u32
     requires { ⌜ Ready settings pace state ⌝ }
-    ensures { λ r. ⌜ r ≡ firstDue kind settings (pace .sample) n state ⌝ }
+    ensures { λ r. ⌜ r ≡ firstTripBy (Kind.On timing) (started settings state (pace .sample)) settings (pace .sample) n state ⌝ }
 {
-    match kind {
-        Kind::Off => 0,
-        Kind::Definite => one_of(n, wait_for(settings.definite_delay, state.run)),
-        Kind::Iec => first_curve(settings, pace, n, state),
-        Kind::Ansi => first_curve(settings, pace, n, state),
+    if is_started(settings, state, pace.sample) {
+        if settings.start_only == 0 {
+            return first_due(timing, settings, pace, n, state);
+        }
     }
+    0
 }
 
 pub(crate) fn first_trip(
@@ -83,10 +89,8 @@ pub(crate) fn first_trip(
     requires { ⌜ Ready settings pace state ⌝ }
     ensures { λ r. ⌜ r ≡ firstTripBy kind (started settings state (pace .sample)) settings (pace .sample) n state ⌝ }
 {
-    if is_started(settings, state, pace.sample) {
-        if settings.start_only == 0 {
-            return first_due(kind, settings, pace, n, state);
-        }
+    match kind {
+        Kind::Off => 0,
+        Kind::On(timing) => first_trip_on(timing, settings, pace, n, state),
     }
-    0
 }

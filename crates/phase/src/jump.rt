@@ -2,7 +2,7 @@
 ghost use mathlib.Core.Path.{_≡_};
 ghost use Prim.Native.Nat.{_≤_};
 ghost use Rattle.phase.specs.Jump.{jumpLimit, jumpOf, jumpAnswer, tripTick};
-ghost use Rattle.phase.specs.Pace.{Ready};
+ghost use Rattle.phase.specs.device.Pace.{Ready};
 use crate::advance::advance;
 use crate::first_trip::first_trip;
 use crate::operation::kind_of;

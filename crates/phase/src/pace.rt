@@ -1,6 +1,6 @@
 // What one sample does to a sum, worked out once for all the ticks that have it.
 ghost use mathlib.Core.Path.{_≡_};
-ghost use Rattle.phase.specs.Pace.{paceOf};
+ghost use Rattle.phase.specs.device.Pace.{paceOf};
 use crate::settings::Settings;
 
 pub struct Pace {

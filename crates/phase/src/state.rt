@@ -2,6 +2,7 @@
 ghost use mathlib.Core.Path.{_≡_};
 ghost use Rattle.phase.specs.State.{clearState, valid, validCounts, validFor};
 use crate::operation::Kind;
+use crate::operation::Timing;
 use crate::operation::kind_of;
 use crate::settings::Settings;
 use crate::settings::trip_level;
@@ -54,14 +55,21 @@ fn all_zero(state: PhaseState) -> bool
     state.drop == 0
 }
 
+fn valid_sum(timing: Timing, state: PhaseState) -> bool
+    ensures { λ r. ⌜ r ≡ validFor (Kind.On timing) state ⌝ }
+{
+    match timing {
+        Timing::Definite => state.sum == 0,
+        Timing::Curve(_) => true,
+    }
+}
+
 fn valid_for(kind: Kind, state: PhaseState) -> bool
     ensures { λ r. ⌜ r ≡ validFor kind state ⌝ }
 {
     match kind {
         Kind::Off => all_zero(state),
-        Kind::Definite => state.sum == 0,
-        Kind::Iec => true,
-        Kind::Ansi => true,
+        Kind::On(timing) => valid_sum(timing, state),
     }
 }
 

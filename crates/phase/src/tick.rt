@@ -1,11 +1,12 @@
 // One tick of one phase.
 ghost use mathlib.Core.Path.{_≡_};
 ghost use Rattle.checks.specs.Checks.{firstFailed};
-ghost use Rattle.phase.specs.Pace.{Ready};
-ghost use Rattle.phase.specs.Tick.{due, startBy, tickOf, phaseChecks, tickAnswer};
+ghost use Rattle.phase.specs.device.Pace.{Ready};
+ghost use Rattle.phase.specs.Tick.{due, startBy, tripBy, tickOf, phaseChecks, tickAnswer};
 use crate::advance::advance;
 use crate::advance::is_started;
 use crate::operation::Kind;
+use crate::operation::Timing;
 use crate::operation::kind_of;
 use crate::pace::Pace;
 use crate::pace::pace_of;
@@ -25,14 +26,14 @@ pub struct Ticked {
 }
 
 // Whether the trip is due in the state after a started tick.
-fn is_due(kind: Kind, settings: Settings, after: PhaseState) -> bool
-    ensures { λ r. ⌜ r ≡ due kind settings after ⌝ }
+fn is_due(timing: Timing, settings: Settings, after: PhaseState) -> bool
+    ensures { λ r. ⌜ r ≡ due timing settings after ⌝ }
 {
-    match kind {
-        Kind::Off => false,
-        Kind::Definite => settings.definite_delay <= after.run,
-        Kind::Iec => (trip_level(settings) <= after.sum) & (settings.minimum_delay <= after.run),
-        Kind::Ansi => (trip_level(settings) <= after.sum) & (settings.minimum_delay <= after.run),
+    match timing {
+        Timing::Definite => settings.definite_delay <= after.run,
+        Timing::Curve(_) => {
+            (trip_level(settings) <= after.sum) & (settings.minimum_delay <= after.run)
+        }
     }
 }
 
@@ -42,9 +43,20 @@ fn start_by(kind: Kind, started: bool) -> bool
 {
     match kind {
         Kind::Off => false,
-        Kind::Definite => started,
-        Kind::Iec => started,
-        Kind::Ansi => started,
+        Kind::On(_) => started,
+    }
+}
+
+// The trip output, with the state after the tick.
+fn trip_by(kind: Kind, started: bool, settings: Settings, after: PhaseState) -> bool
+    ensures { λ r. ⌜ r ≡ tripBy kind started settings after ⌝ }
+{
+    match kind {
+        Kind::Off => false,
+        Kind::On(timing) => {
+            let allowed = started & (settings.start_only == 0);
+            allowed & is_due(timing, settings, after)
+        }
     }
 }
 
@@ -57,8 +69,7 @@ pub fn tick_ready(settings: Settings, pace: Pace, state: PhaseState) -> Ticked
     let started = is_started(settings, state, pace.sample);
     let after = advance(kind, settings, pace, 1, state);
     let start = start_by(kind, started);
-    let allowed = started & (settings.start_only == 0);
-    let trip = allowed & is_due(kind, settings, after);
+    let trip = trip_by(kind, started, settings, after);
     Ticked {
         refusal: 0,
         state: after,

@@ -2,7 +2,7 @@
 use Prim.Native.Nat.{ℕ}
 use mathlib.Core.Path.{_≡_}
 use Rattle.phase.specs.declared.settings.Settings.{Settings}
-use Rattle.phase.specs.Pace.{paceOf}
+use Rattle.phase.specs.device.Pace.{paceOf}
 use Rattle.relay.specs.declared.state.RelayState.{RelayState}
 use Rattle.relay.specs.declared.step.Paces.{Paces}
 use Rattle.relay.specs.declared.step.Stepped.{Stepped}

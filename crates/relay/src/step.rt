@@ -1,8 +1,8 @@
 // One tick of settings and a state that were checked before: what a tick and each turn of a batch do.
 ghost use mathlib.Core.Path.{_≡_};
 ghost use mathlib.Core.Bool.{true};
-ghost use Rattle.phase.specs.Pace.{paceOf};
-ghost use Rattle.phase.specs.Settings.{InRange};
+ghost use Rattle.phase.specs.device.Pace.{paceOf};
+ghost use Rattle.phase.specs.device.Ranges.{InRange};
 ghost use Rattle.relay.specs.State.{validRelay};
 ghost use Rattle.relay.specs.Step.{Paced, pacesOf, stepOf};
 use crate::outputs::output_byte;

@@ -5,7 +5,7 @@ use native.Mathlib.Omega.{arith}
 use mathlib.Core.Path.{_≡_, _∙_, ap}
 use borrow.Author.Needs.{needs}
 use borrow.Author.Tests.{eq-eqb, ne-eqb, lt-ltb, le-ltb}
-use Rattle.phase.specs.Closed.{turns, oneOf}
+use Rattle.phase.specs.device.Closed.{turns, oneOf}
 use Rattle.phase.proofs.FirstTrips.{no-turns}
 use Rattle.phase.proofs.first_trip.first_full.Statement.{statement}
 use Rattle.phase.proofs.first_trip.first_full.Tie as tie

@@ -1,26 +1,24 @@
--- `phase::first_trip::first_trip` meets its contract.
+-- `phase::first_trip::first_trip` meets its contract: rule 1, else the others.
 -- Assumes nothing.
-use mathlib.Core.Path.{sym, _∙_}
 use borrow.Author.Needs.{needs}
-use borrow.Author.Tests.{eq-eqb, ne-eqb}
 use Rattle.phase.proofs.first_trip.first_trip.Statement.{statement}
 use Rattle.phase.proofs.first_trip.first_trip.Tie as tie
 
-is-started-requires : tie.Need-is-started-requires
-is-started-requires c κs = search needs
+enum-told : tie.Need-enum-told
+enum-told c = search needs
 
-first-due-requires : tie.Need-first-due-requires
-first-due-requires c κs = search needs
+enum-known-kind : tie.Need-enum-known-kind
+enum-known-kind c = search needs
+
+first-trip-on-requires : tie.Need-first-trip-on-requires
+first-trip-on-requires c κs = search needs
 
 returns : tie.Need-returns
-returns c = rw (sym (c .before .before .before .before .is-started .ensures) ∙ c .before .before .before .if1 .taken, eq-eqb _ 0 (c .before .if2 .taken)) (c .first-due .ensures)
+returns c = search needs
 
 returns-2 : tie.Need-returns-2
-returns-2 c = rw (sym (c .before .before .before .is-started .ensures) ∙ c .before .before .if1 .taken, ne-eqb _ 0 (c .if2 .left))
-
-returns-3 : tie.Need-returns-3
-returns-3 c = rw (sym (c .before .is-started .ensures) ∙ c .if1 .left)
+returns-2 c = rw (c .before .before .kind .given .1) (c .first-trip-on .ensures)
 
 pub first-trip-spec : {M : Type 1} → statement M
 first-trip-spec =
-    tie.close (tie.spec is-started-requires first-due-requires returns returns-2 returns-3)
+    tie.close (tie.spec enum-told enum-known-kind first-trip-on-requires returns returns-2)

@@ -4,7 +4,7 @@ use mathlib.Core.Path.{_≡_, sym, _∙_, ap}
 use borrow.Author.Needs.{needs}
 use Rattle.phase.proofs.Accepted.{ready, jump-passed, jump-accepted, jump-refused}
 use Rattle.phase.specs.Jump.{jumpOf, jumpRefusal}
-use Rattle.phase.specs.Pace.{paceOf}
+use Rattle.phase.specs.device.Pace.{paceOf}
 use Rattle.checks.specs.Checks.{firstFailed}
 use Rattle.phase.specs.Tick.{phaseChecks}
 use Rattle.phase.specs.declared.pace.Pace.{Pace}

@@ -1,7 +1,7 @@
 -- `phase::pace::pace_of` meets its contract.
 -- Assumes nothing.
 use borrow.Author.Needs.{needs}
-use Rattle.phase.specs.Pace.{paceOf}
+use Rattle.phase.specs.device.Pace.{paceOf}
 use Rattle.phase.proofs.pace.pace_of.Statement.{statement}
 use Rattle.phase.proofs.pace.pace_of.Tie as tie
 

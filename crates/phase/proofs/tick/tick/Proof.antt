@@ -3,7 +3,7 @@
 use mathlib.Core.Path.{_≡_, sym, _∙_, ap}
 use borrow.Author.Needs.{needs}
 use Rattle.phase.proofs.Accepted.{ready, tick-passed, tick-accepted, tick-refused}
-use Rattle.phase.specs.Pace.{paceOf}
+use Rattle.phase.specs.device.Pace.{paceOf}
 use Rattle.phase.specs.Tick.{tickOf, tickRefusal}
 use Rattle.phase.specs.declared.pace.Pace.{Pace}
 use Rattle.phase.proofs.tick.tick.Statement.{statement}

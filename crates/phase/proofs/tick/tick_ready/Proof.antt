@@ -1,8 +1,8 @@
 -- `phase::tick::tick_ready` meets its contract: a tick is the closed form at 1.
 -- Assumes nothing.
 use borrow.Author.Needs.{needs}
-use Rattle.phase.proofs.Walk.{next-closed}
 use Rattle.phase.specs.Tick.{phaseStart, phaseTrip}
+use Rattle.phase.proofs.Walk.{next-closed}
 use Rattle.phase.proofs.tick.tick_ready.Statement.{statement}
 use Rattle.phase.proofs.tick.tick_ready.Tie as tie
 
@@ -18,14 +18,14 @@ advance-requires c κs = search needs
 start-by-requires : tie.Need-start-by-requires
 start-by-requires c κs = search needs
 
-is-due-requires : tie.Need-is-due-requires
-is-due-requires c κs = search needs
+trip-by-requires : tie.Need-trip-by-requires
+trip-by-requires c κs = search needs
 
 returns : tie.Need-returns
 unfolding phaseStart phaseTrip
 returns c =
-    let a = c .before .before .before .before .before .before .args in
-    rw (c .is-due .ensures, c .before .before .start-by .ensures, c .before .before .before .advance .ensures, c .before .before .before .before .is-started .ensures, c .before .before .before .before .before .kind-of .ensures, next-closed (a .settings) (a .pace .sample) (a .state))
+    let a = c .before .before .before .before .before .args in
+    rw (c .trip-by .ensures, c .before .start-by .ensures, c .before .before .advance .ensures, c .before .before .before .is-started .ensures, c .before .before .before .before .kind-of .ensures, next-closed (a .settings) (a .pace .sample) (a .state))
 
 pub tick-ready-spec : {M : Type 1} → statement M
 tick-ready-spec =
@@ -35,5 +35,5 @@ tick-ready-spec =
     is-started-requires
     advance-requires
     start-by-requires
-    is-due-requires
+    trip-by-requires
     returns)

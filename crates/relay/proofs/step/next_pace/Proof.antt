@@ -2,7 +2,7 @@
 -- Assumes nothing.
 use mathlib.Core.Path.{_∙_, ap}
 use borrow.Author.Needs.{needs}
-use Rattle.phase.specs.Pace.{paceOf}
+use Rattle.phase.specs.device.Pace.{paceOf}
 use Rattle.relay.proofs.step.next_pace.Statement.{statement}
 use Rattle.relay.proofs.step.next_pace.Tie as tie
 

@@ -1,9 +1,9 @@
--- `phase::advance::moved_after` meets its contract.
+-- `phase::advance::advance_on` meets its contract.
 -- Assumes nothing.
 use mathlib.Core.Path.{sym, _∙_}
 use borrow.Author.Needs.{needs}
-use Rattle.phase.proofs.advance.moved_after.Statement.{statement}
-use Rattle.phase.proofs.advance.moved_after.Tie as tie
+use Rattle.phase.proofs.advance.advance_on.Statement.{statement}
+use Rattle.phase.proofs.advance.advance_on.Tie as tie
 
 is-started-requires : tie.Need-is-started-requires
 is-started-requires c κs = search needs
@@ -26,8 +26,8 @@ returns c = rw (sym (c .before .before .before .is-started .ensures) ∙ c .befo
 returns-2 : tie.Need-returns-2
 returns-2 c = rw (sym (c .before .before .before .is-started .ensures) ∙ c .before .before .if1 .left) (rw (c .sum-down-after .ensures, c .before .count-after2 .ensures))
 
-pub moved-after-spec : {M : Type 1} → statement M
-moved-after-spec =
+pub advance-on-spec : {M : Type 1} → statement M
+advance-on-spec =
     tie.close
     (tie.spec
     is-started-requires

@@ -1,12 +1,13 @@
--- What one sample does to a sum, worked out once: a device of the code.
+-- A device of the code: what one sample does to a sum, worked out once.
 use Prim.Native.Nat.{ℕ, _≤_}
 use mathlib.Core.Path.{_≡_}
 use Rattle.phase.specs.declared.pace.Pace.{Pace}
 use Rattle.phase.specs.declared.settings.Settings.{Settings}
 use Rattle.phase.specs.declared.state.PhaseState.{PhaseState}
-use Rattle.phase.specs.Settings.{InRange, tripLevel}
+use Rattle.phase.specs.Settings.{tripLevel}
 use Rattle.phase.specs.State.{runLimit}
 use Rattle.phase.specs.Tick.{gainAt, lossAt}
+use Rattle.phase.specs.device.Ranges.{InRange}
 
 unfoldable pub paceOf : Settings → ℕ → Pace
 paceOf settings g = record { sample = g; gain = gainAt settings g; loss = lossAt settings g }
