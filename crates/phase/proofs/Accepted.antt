@@ -3,21 +3,23 @@
 use Prim.Native.Nat.{ℕ, suc, _≤_}
 use native.Mathlib.Nat.{suc-ne-zero}
 use mathlib.Core.Bool.{Bool, true, false, cond, _&&_, _||_, false≢true}
+use mathlib.Core.List.{List, [], _∷_, _++_}
 use mathlib.Core.Path.{_≡_, refl, sym, _∙_, ap}
 use borrow.Author.Tests.{leb-true, eq-eqb, ne-eqb}
 use lib.Dec.{leb, eqb}
-use Rattle.checks.specs.Checks.{firstFailed}
+use Rattle.checks.specs.Checks.{Check, check, firstFailed, lowest}
 use Rattle.checks.specs.Range.{inRange}
 use Rattle.checks.proofs.Tests.{both-true, passed, in-range}
 use Rattle.phase.specs.declared.settings.Settings.{Settings}
 use Rattle.phase.specs.declared.state.PhaseState.{PhaseState}
 use Rattle.phase.specs.Jump.{jumpLimit, jumpRefusal, jumpOf, refusedJump, jumpAnswer}
 use Rattle.phase.specs.Operation.{kindOf}
+use Rattle.phase.specs.Refusals.{jumpTooLong}
 use Rattle.phase.specs.device.Pace.{paceOf, Ready}
 use Rattle.phase.specs.Settings.{settingsChecks, settingsRefusal, tripLevel}
 use Rattle.phase.specs.device.Ranges.{InRange}
 use Rattle.phase.specs.State.{runLimit, valid, validCounts, validFor}
-use Rattle.phase.specs.Tick.{tickRefusal, tickOf, refusedTick, tickAnswer}
+use Rattle.phase.specs.Tick.{phaseChecks, tickRefusal, tickOf, refusedTick, tickAnswer}
 
 -- settings that pass the check, and what comes after them
 pub settings-passed : (settings : Settings) (rest : ℕ) → firstFailed (settingsChecks settings) rest ≡ 0 → InRange settings × (rest ≡ 0)
@@ -85,6 +87,26 @@ jump-passed settings state count e =
     let s = settings-passed settings _ e in
     let v = passed (valid settings state) _ 7 (s .1) in
     (s .0, v .0, leb-true count jumpLimit (passed (leb count jumpLimit) 0 8 (v .1) .0))
+
+one-passed : (b : Bool) (all front n : ℕ) → (all ≡ 0 → front ≡ 0) → cond b all n ≡ 0 → cond b front n ≡ 0
+one-passed true all front n f e = f e
+one-passed false all front n f e = e
+
+-- the checks in front of others were passed if all were
+front-passed : (front rest : List Check) → lowest (front ++ rest) ≡ 0 → lowest front ≡ 0
+front-passed [] rest e = refl
+front-passed (c ∷ front) rest e = one-passed (c .passes) _ _ (c .number) (front-passed front rest) e
+
+-- so a tick is accepted where a jump is
+pub jump-tick-accepted : (settings : Settings) (state : PhaseState) (count : ℕ) → jumpRefusal settings state count ≡ 0 → tickRefusal settings state ≡ 0
+unfolding jumpRefusal tickRefusal
+jump-tick-accepted settings state count e =
+    front-passed (phaseChecks settings state) (check (leb count jumpLimit) jumpTooLong ∷ []) e
+
+-- the jump's refusal from that of its own check
+pub jump-refusal-by-parts : (settings : Settings) (state : PhaseState) (count own all : ℕ) → own ≡ lowest (check (leb count jumpLimit) jumpTooLong ∷ []) → all ≡ firstFailed (phaseChecks settings state) own → all ≡ jumpRefusal settings state count
+unfolding jumpRefusal
+jump-refusal-by-parts settings state count own all e f = f ∙ ap (firstFailed (phaseChecks settings state)) e
 
 -- ---- the answers
 

@@ -14,14 +14,14 @@ use Rattle.phase.specs.declared.operation.Timing.{Timing}
 use Rattle.phase.specs.declared.operation.Timing.the-variants.{Definite, Curve}
 use Rattle.phase.specs.declared.settings.Settings.{Settings}
 use Rattle.phase.specs.declared.state.PhaseState.{PhaseState}
-use Rattle.phase.specs.device.Closed.{advanceBy, oneOf, waitFor, turns, firstFull, firstDue, firstTripBy}
+use Rattle.phase.specs.device.Closed.{advanceBy, advanced, oneOf, waitFor, turns, firstFull, firstDue, firstTripBy}
 use Rattle.phase.specs.Jump.{stateAfter, firstOf, orLast, tripAt, firstTrip}
 use Rattle.phase.specs.Operation.{kindOf}
 use Rattle.phase.specs.Settings.{tripLevel}
 use Rattle.phase.specs.device.Ranges.{InRange}
 use Rattle.phase.specs.State.{runLimit}
 use Rattle.phase.specs.Tick.{gainAt, started, nextState, phaseTrip, due, tripBy}
-use Rattle.phase.proofs.Walk.{closedAfter, started-stays, ticks-closed}
+use Rattle.phase.proofs.Walk.{started-stays, ticks-closed}
 
 -- ---- tests
 
@@ -36,7 +36,7 @@ both-iff a b c d m k f g h = go (leb a b) refl
 -- ---- the first of 1, 2 .. n
 
 -- only the numbers above 0 matter
-first-same : (t u : ℕ → Bool) (n : ℕ) → ((k : ℕ) → t (suc k) ≡ u (suc k)) → firstOf t n ≡ firstOf u n
+pub first-same : (t u : ℕ → Bool) (n : ℕ) → ((k : ℕ) → t (suc k) ≡ u (suc k)) → firstOf t n ≡ firstOf u n
 unfolding firstOf
 first-same t u zero e = refl
 first-same t u (suc n) e = rw (first-same t u n e, e n)
@@ -127,7 +127,7 @@ trip-first (On timing) true false settings g n state range e = rw e (first-none 
 trip-first (On timing) true true settings g n state range e = rw e (due-first timing settings g n state range)
 
 -- the trip at tick k by the closed form
-trip-closed : (settings : Settings) (g : ℕ) (state : PhaseState) (k : ℕ) → tripAt settings g state (suc k) ≡ tripBy (kindOf (settings .operation)) (started settings state g) settings (closedAfter settings g (suc k) state)
+trip-closed : (settings : Settings) (g : ℕ) (state : PhaseState) (k : ℕ) → tripAt settings g state (suc k) ≡ tripBy (kindOf (settings .operation)) (started settings state g) settings (advanced settings g (suc k) state)
 unfolding phaseTrip stateAfter
 trip-closed settings g state k =
     let kind = kindOf (settings .operation) in

@@ -4,3 +4,5 @@ pub mod FirstTrips
 pub mod JumpMeans
 pub mod Accepted
 pub mod KeepsValid
+pub mod QuickSum
+pub mod LowestRefusals

@@ -13,7 +13,7 @@ use Rattle.phase.specs.declared.operation.ResetRule.the-variants.{Iec, A
 use Rattle.phase.specs.declared.operation.Timing.the-variants.{Definite, Curve}
 use Rattle.phase.specs.declared.settings.Settings.{Settings}
 use Rattle.phase.specs.declared.state.PhaseState.{PhaseState}
-use Rattle.phase.specs.device.Closed.{advanceBy}
+use Rattle.phase.specs.device.Closed.{advanceBy, advanced}
 use Rattle.phase.specs.Jump.{stateAfter}
 use Rattle.phase.specs.Operation.{kindOf}
 use Rattle.phase.specs.State.{runLimit}
@@ -69,10 +69,7 @@ pub started-stays : (settings : Settings) (g n : ℕ) (state : PhaseState) → s
 unfolding started
 started-stays settings g n state = refl
 
-abbrev pub closedAfter : Settings → ℕ → ℕ → PhaseState → PhaseState
-closedAfter settings g n state = advanceBy (kindOf (settings .operation)) (started settings state g) settings g n state
-
-from-one : (settings : Settings) (g n : ℕ) (state : PhaseState) → stateAfter settings g (suc n) state ≡ closedAfter settings g (suc n) state
+from-one : (settings : Settings) (g n : ℕ) (state : PhaseState) → stateAfter settings g (suc n) state ≡ advanced settings g (suc n) state
 unfolding stateAfter nextState
 from-one settings g zero state = once (kindOf (settings .operation)) (started settings state g) settings g state
 from-one settings g (suc n) state =
@@ -83,10 +80,10 @@ from-one settings g (suc n) state =
     ∙ again kind b settings g (suc n) state
 
 -- any number of ticks but none
-pub ticks-closed : (settings : Settings) (g n : ℕ) (state : PhaseState) → 0 < n → stateAfter settings g n state ≡ closedAfter settings g n state
+pub ticks-closed : (settings : Settings) (g n : ℕ) (state : PhaseState) → 0 < n → stateAfter settings g n state ≡ advanced settings g n state
 ticks-closed settings g zero state h = absurd (not-suc-le-zero h)
 ticks-closed settings g (suc n) state h = from-one settings g n state
 
-pub next-closed : (settings : Settings) (g : ℕ) (state : PhaseState) → nextState settings state g ≡ closedAfter settings g 1 state
+pub next-closed : (settings : Settings) (g : ℕ) (state : PhaseState) → nextState settings state g ≡ advanced settings g 1 state
 unfolding nextState
 next-closed settings g state = once (kindOf (settings .operation)) (started settings state g) settings g state

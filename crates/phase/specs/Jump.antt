@@ -1,9 +1,9 @@
 -- The jump over many equal ticks: the ticks walked one by one.
 use Prim.Native.Nat.{ℕ, zero, suc}
 use mathlib.Core.Bool.{Bool, false, cond}
-use mathlib.Core.List.{[], _∷_, _++_}
+use mathlib.Core.List.{List, [], _∷_, _++_}
 use lib.Dec.{leb, eqb}
-use Rattle.checks.specs.Checks.{check, lowest}
+use Rattle.checks.specs.Checks.{Check, check, lowest}
 use Rattle.phase.specs.declared.jump.Jumped.{Jumped}
 use Rattle.phase.specs.declared.jump.TripTick.{TripTick}
 use Rattle.phase.specs.declared.jump.TripTick.the-variants.{At, None}
@@ -41,14 +41,21 @@ abbrev pub tripTick : ℕ → TripTick
 tripTick zero = None
 tripTick (suc k) = At (suc k)
 
+-- the number of each case: tick k is k, none is 0
+unfoldable pub tripNumber : TripTick → ℕ
+tripNumber (At k) = k
+tripNumber None = 0
+
 -- "a jump is over 3,600,000 ticks"
 abbrev pub jumpLimit : ℕ
 jumpLimit = 3600000
 
 -- a jump is refused by 1 to 9
+abbrev pub jumpChecks : Settings → PhaseState → ℕ → List Check
+jumpChecks settings state count = phaseChecks settings state ++ (check (leb count jumpLimit) jumpTooLong ∷ [])
+
 unfoldable pub jumpRefusal : Settings → PhaseState → ℕ → ℕ
-jumpRefusal settings state count =
-    lowest (phaseChecks settings state ++ (check (leb count jumpLimit) jumpTooLong ∷ []))
+jumpRefusal settings state count = lowest (jumpChecks settings state count)
 
 -- an accepted jump
 abbrev pub jumpOf : Settings → PhaseState → ℕ → ℕ → Jumped
@@ -63,3 +70,7 @@ refusedJump refusal state = record { refusal = refusal; state = state; trip = No
 unfoldable pub jumpAnswer : Settings → PhaseState → ℕ → ℕ → Jumped
 jumpAnswer settings state g count =
     cond (eqb (jumpRefusal settings state count) 0) (jumpOf settings state g count) (refusedJump (jumpRefusal settings state count) state)
+
+-- the number of the trip tick that it answers: 0 where there is none, and where the jump is refused
+unfoldable pub jumpNumber : Settings → PhaseState → ℕ → ℕ → ℕ
+jumpNumber settings state g count = cond (eqb (jumpRefusal settings state count) 0) (firstTrip settings g count state) 0

@@ -1,7 +1,7 @@
 // Many equal ticks of one phase at once.
 ghost use mathlib.Core.Path.{_≡_};
 ghost use Prim.Native.Nat.{_≤_};
-ghost use Rattle.phase.specs.Jump.{jumpLimit, jumpOf, jumpAnswer, tripTick};
+ghost use Rattle.phase.specs.Jump.{jumpLimit, jumpOf, jumpAnswer, jumpNumber, tripTick, tripNumber};
 ghost use Rattle.phase.specs.device.Pace.{Ready};
 use crate::advance::advance;
 use crate::first_trip::first_trip;
@@ -65,7 +65,8 @@ fn jump_ready(settings: Settings, pace: Pace, state: PhaseState, count: u32) -> 
 // Many ticks with one sample: refused by the lowest number that applies, else the state after them and the first of
 // them with the phase trip on.
 pub fn jump(settings: Settings, state: PhaseState, g: u32, count: u32) -> Jumped
-    ensures { λ r. ⌜ r ≡ jumpAnswer settings state g count ⌝ }
+    ensures answer { λ r. ⌜ r ≡ jumpAnswer settings state g count ⌝ }
+    ensures number { λ r. ⌜ tripNumber (r .trip) ≡ jumpNumber settings state g count ⌝ }
 {
     let refusal = phase_first_failed(
         settings,

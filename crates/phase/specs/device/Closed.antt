@@ -10,9 +10,10 @@ use Rattle.phase.specs.declared.operation.Timing.{Timing}
 use Rattle.phase.specs.declared.operation.Timing.the-variants.{Definite, Curve}
 use Rattle.phase.specs.declared.settings.Settings.{Settings}
 use Rattle.phase.specs.declared.state.PhaseState.{PhaseState}
+use Rattle.phase.specs.Operation.{kindOf}
 use Rattle.phase.specs.Settings.{tripLevel}
 use Rattle.phase.specs.State.{runLimit, clearState}
-use Rattle.phase.specs.Tick.{gainAt, lossAt}
+use Rattle.phase.specs.Tick.{gainAt, lossAt, started}
 
 -- ---- the state after n ticks, n above 0
 
@@ -38,6 +39,9 @@ advanceBy (On timing) false settings g n state =
       run = 0;
       drop = countAfter n (state .drop);
     }
+
+abbrev pub advanced : Settings → ℕ → ℕ → PhaseState → PhaseState
+advanced settings g n state = advanceBy (kindOf (settings .operation)) (started settings state g) settings g n state
 
 -- ---- the first of n ticks with the phase trip on, or 0
 
