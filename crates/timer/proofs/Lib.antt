@@ -1,1 +1,3 @@
-pub mod TimerLaws
+pub mod Accepted
+pub mod Runs
+pub mod ZeroDelay

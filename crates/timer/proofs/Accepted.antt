@@ -1,0 +1,58 @@
+-- An accepted call: what it gives, and that it leaves a valid state.
+-- Assumes nothing.
+use Prim.Native.Nat.{ℕ, _≤_}
+use native.Mathlib.Nat.{suc-ne-zero}
+use native.Mathlib.Omega.{arith}
+use mathlib.Core.Bool.{Bool, true, false, cond}
+use mathlib.Core.Path.{_≡_, refl}
+use borrow.Author.Tests.{leb-true, le-leb}
+use lib.Dec.{leb, ltb}
+use Rattle.timer.specs.Answer.{accepted, answered}
+use Rattle.timer.specs.Refusals.{invalidTimer, delayTooLong}
+use Rattle.timer.specs.Rules.{fires, Rule, byRule}
+use Rattle.timer.specs.Rules.Rule.{setDelay, hold, resetDelay, flipFlop}
+use Rattle.timer.specs.State.{countLimit, delayLimit, freshTimer, validTimer}
+use Rattle.timer.specs.Timer.{timerAnswer}
+use Rattle.timer.specs.declared.answer.Timed.{Timed}
+use Rattle.timer.specs.declared.state.TimerState.{TimerState}
+
+pub accepted-by-rule : (rule : Rule) (state : TimerState) (d : ℕ) → validTimer state ≡ true → leb d delayLimit ≡ true → timerAnswer rule false state d ≡ byRule rule d state
+unfolding timerAnswer
+accepted-by-rule rule state d valid fits = rw (valid, fits)
+
+pub reset-makes-fresh : (rule : Rule) (state : TimerState) (d : ℕ) → validTimer state ≡ true → leb d delayLimit ≡ true → timerAnswer rule true state d ≡ accepted freshTimer false
+unfolding timerAnswer
+reset-makes-fresh rule state d valid fits = rw (valid, fits)
+
+-- ---- it leaves a valid state
+
+by-cond : {A : Type 0} (P : A → Type 0) (b : Bool) {x y : A} → P x → P y → P (cond b x y)
+by-cond P true p q = p
+by-cond P false p q = q
+
+abbrev InLimit : Timed → Type 0
+InLimit timed = timed .state .count ≤ countLimit
+
+pub rule-in-limit : (rule : Rule) (d : ℕ) (state : TimerState) → state .count ≤ countLimit → d ≤ delayLimit → InLimit (byRule rule d state)
+rule-in-limit (setDelay input) d state h k = by-cond (λ n. n ≤ countLimit) input (omega arith) (omega arith)
+rule-in-limit (hold input) d state h k =
+    by-cond InLimit (ltb 0 (state .count)) (omega arith) (by-cond InLimit (fires d input (state .previous)) (omega arith) h)
+rule-in-limit (resetDelay input) d state h k = by-cond InLimit input (omega arith) (omega arith)
+rule-in-limit (flipFlop set trip) d state h k = by-cond (λ n. n ≤ countLimit) set (omega arith) (omega arith)
+
+-- by the two tests of the refusal and the reset
+answered-in-limit : (valid fits reset : Bool) (state : TimerState) (ruled : Timed) → (valid ≡ true → fits ≡ true → InLimit ruled)
+    → answered (cond valid (cond fits 0 delayTooLong) invalidTimer) reset state ruled .refusal ≡ 0
+    → InLimit (answered (cond valid (cond fits 0 delayTooLong) invalidTimer) reset state ruled)
+answered-in-limit true true true state ruled h e = omega arith
+answered-in-limit true true false state ruled h e = h refl refl
+answered-in-limit true false reset state ruled h e = absurd (suc-ne-zero 14 e)
+answered-in-limit false fits reset state ruled h e = absurd (suc-ne-zero 7 e)
+
+pub accepted-leaves-valid : (rule : Rule) (reset : Bool) (state : TimerState) (d : ℕ) → timerAnswer rule reset state d .refusal ≡ 0 → validTimer (timerAnswer rule reset state d .state) ≡ true
+unfolding timerAnswer
+accepted-leaves-valid rule reset state d e =
+    le-leb _ countLimit
+    (answered-in-limit (validTimer state) (leb d delayLimit) reset state (byRule rule d state)
+    (λ valid fits. rule-in-limit rule d state (leb-true (state .count) countLimit valid) (leb-true d delayLimit fits))
+    e)
