@@ -1,26 +1,32 @@
--- An accepted call: what it gives, and that it leaves a valid state.
+-- An accepted call: what it gives, that it leaves a valid state, and so a run of accepted ticks.
 -- Assumes nothing.
 use Prim.Native.Nat.{ℕ, _≤_}
 use native.Mathlib.Nat.{suc-ne-zero}
 use native.Mathlib.Omega.{arith}
 use mathlib.Core.Bool.{Bool, true, false, cond}
+use mathlib.Core.List.{List, [], _∷_}
 use mathlib.Core.Path.{_≡_, refl}
 use borrow.Author.Tests.{leb-true, le-leb}
 use lib.Dec.{leb, ltb}
 use Rattle.timer.specs.Answer.{accepted, answered}
+use Rattle.timer.specs.Inputs.{inputOf}
 use Rattle.timer.specs.Refusals.{invalidTimer, delayTooLong}
 use Rattle.timer.specs.Rules.{fires, Rule, byRule}
 use Rattle.timer.specs.Rules.Rule.{setDelay, hold, resetDelay, flipFlop}
 use Rattle.timer.specs.State.{countLimit, delayLimit, freshTimer, validTimer}
 use Rattle.timer.specs.Timer.{timerAnswer}
 use Rattle.timer.specs.declared.answer.Timed.{Timed}
+use Rattle.timer.specs.declared.inputs.Inputs.{Inputs}
 use Rattle.timer.specs.declared.state.TimerState.{TimerState}
+use Rattle.timer.proofs.Runs.{outputs, stateAfter, WithoutReset}
 
-pub accepted-by-rule : (rule : Rule) (state : TimerState) (d : ℕ) → validTimer state ≡ true → leb d delayLimit ≡ true → timerAnswer rule false state d ≡ byRule rule d state
+pub accepted-by-rule : (rule : Rule) (state : TimerState) (d : ℕ) → validTimer state ≡ true → leb d delayLimit ≡ true
+    → timerAnswer rule false state d ≡ byRule rule d state
 unfolding timerAnswer
 accepted-by-rule rule state d valid fits = rw (valid, fits)
 
-pub reset-makes-fresh : (rule : Rule) (state : TimerState) (d : ℕ) → validTimer state ≡ true → leb d delayLimit ≡ true → timerAnswer rule true state d ≡ accepted freshTimer false
+pub reset-makes-fresh : (rule : Rule) (state : TimerState) (d : ℕ) → validTimer state ≡ true → leb d delayLimit ≡ true
+    → timerAnswer rule true state d ≡ accepted freshTimer false
 unfolding timerAnswer
 reset-makes-fresh rule state d valid fits = rw (valid, fits)
 
@@ -33,15 +39,23 @@ by-cond P false p q = q
 abbrev InLimit : Timed → Type 0
 InLimit timed = timed .state .count ≤ countLimit
 
-pub rule-in-limit : (rule : Rule) (d : ℕ) (state : TimerState) → state .count ≤ countLimit → d ≤ delayLimit → InLimit (byRule rule d state)
+rule-in-limit : (rule : Rule) (d : ℕ) (state : TimerState) → state .count ≤ countLimit → d ≤ delayLimit
+    → InLimit (byRule rule d state)
 rule-in-limit (setDelay input) d state h k = by-cond (λ n. n ≤ countLimit) input (omega arith) (omega arith)
 rule-in-limit (hold input) d state h k =
     by-cond InLimit (ltb 0 (state .count)) (omega arith) (by-cond InLimit (fires d input (state .previous)) (omega arith) h)
 rule-in-limit (resetDelay input) d state h k = by-cond InLimit input (omega arith) (omega arith)
 rule-in-limit (flipFlop set trip) d state h k = by-cond (λ n. n ≤ countLimit) set (omega arith) (omega arith)
 
+pub rule-leaves-valid : (rule : Rule) (d : ℕ) (state : TimerState) → validTimer state ≡ true → leb d delayLimit ≡ true
+    → validTimer (byRule rule d state .state) ≡ true
+rule-leaves-valid rule d state valid fits =
+    le-leb (byRule rule d state .state .count) countLimit
+    (rule-in-limit rule d state (leb-true (state .count) countLimit valid) (leb-true d delayLimit fits))
+
 -- by the two tests of the refusal and the reset
-answered-in-limit : (valid fits reset : Bool) (state : TimerState) (ruled : Timed) → (valid ≡ true → fits ≡ true → InLimit ruled)
+answered-in-limit : (valid fits reset : Bool) (state : TimerState) (ruled : Timed)
+    → (valid ≡ true → fits ≡ true → InLimit ruled)
     → answered (cond valid (cond fits 0 delayTooLong) invalidTimer) reset state ruled .refusal ≡ 0
     → InLimit (answered (cond valid (cond fits 0 delayTooLong) invalidTimer) reset state ruled)
 answered-in-limit true true true state ruled h e = omega arith
@@ -49,10 +63,42 @@ answered-in-limit true true false state ruled h e = h refl refl
 answered-in-limit true false reset state ruled h e = absurd (suc-ne-zero 14 e)
 answered-in-limit false fits reset state ruled h e = absurd (suc-ne-zero 7 e)
 
-pub accepted-leaves-valid : (rule : Rule) (reset : Bool) (state : TimerState) (d : ℕ) → timerAnswer rule reset state d .refusal ≡ 0 → validTimer (timerAnswer rule reset state d .state) ≡ true
+pub accepted-leaves-valid : (rule : Rule) (reset : Bool) (state : TimerState) (d : ℕ)
+    → timerAnswer rule reset state d .refusal ≡ 0 → validTimer (timerAnswer rule reset state d .state) ≡ true
 unfolding timerAnswer
 accepted-leaves-valid rule reset state d e =
     le-leb _ countLimit
     (answered-in-limit (validTimer state) (leb d delayLimit) reset state (byRule rule d state)
     (λ valid fits. rule-in-limit rule d state (leb-true (state .count) countLimit valid) (leb-true d delayLimit fits))
     e)
+
+-- ---- a run of accepted ticks
+
+-- one of the three timers that have one input
+abbrev answerBy : (Bool → Rule) → ℕ → TimerState → Inputs → Timed
+answerBy rule d state inputs = timerAnswer (rule (inputOf inputs)) (inputs .reset) state d
+
+-- its rule alone
+abbrev pub ruledBy : (Bool → Rule) → ℕ → TimerState → Inputs → Timed
+ruledBy rule d state inputs = byRule (rule (inputOf inputs)) d state
+
+-- from a valid state, with a delay that fits and without reset, a run goes by the rule alone
+pub record GoesByRule (rule : Bool → Rule) (d : ℕ) (state : TimerState) (ticks : List Inputs) : Type 0 where
+  pub outputs-same : outputs (answerBy rule d) state ticks ≡ outputs (ruledBy rule d) state ticks
+  pub state-same : stateAfter (answerBy rule d) state ticks ≡ stateAfter (ruledBy rule d) state ticks
+  pub leaves-valid : validTimer (stateAfter (ruledBy rule d) state ticks) ≡ true
+
+pub run-goes-by-rule : (rule : Bool → Rule) (d : ℕ) (state : TimerState) (ticks : List Inputs)
+    → validTimer state ≡ true → leb d delayLimit ≡ true → WithoutReset ticks → GoesByRule rule d state ticks
+unfolding outputs stateAfter WithoutReset
+run-goes-by-rule rule d state [] valid fits none = record { outputs-same = refl; state-same = refl; leaves-valid = valid }
+run-goes-by-rule rule d state (inputs ∷ rest) valid fits none =
+    let next = byRule (rule (inputOf inputs)) d state .state in
+    let next-valid = rule-leaves-valid (rule (inputOf inputs)) d state valid fits in
+    let then = run-goes-by-rule rule d next rest next-valid fits (none .1) in
+    let tick = accepted-by-rule (rule (inputOf inputs)) state d valid fits in
+    record {
+      outputs-same = rw (none .0, tick, then .outputs-same);
+      state-same = rw (none .0, tick, then .state-same);
+      leaves-valid = then .leaves-valid;
+    }

@@ -18,7 +18,11 @@ accepted-requires : tie.Need-accepted-requires
 accepted-requires c κs = search needs
 
 returns-2 : tie.Need-returns-2
-returns-2 c = rw (eq-eqb _ 0 (c .before .before .before .if1 .left), c .before .before .if2 .taken) (rw (c .accepted .ensures, c .before .fresh .ensures))
+returns-2 c =
+    rw (eq-eqb _ 0 (c .before .before .before .if1 .left), c .before .before .if2 .taken) (rw (
+      c .accepted .ensures,
+      c .before .fresh .ensures,
+    ))
 
 returns-3 : tie.Need-returns-3
 returns-3 c = rw (eq-eqb _ 0 (c .before .if1 .left), c .if2 .left)

@@ -17,7 +17,13 @@ latching-requires : tie.Need-latching-requires
 latching-requires c κs = search needs
 
 returns : tie.Need-returns
-returns c = rw (c .latching .ensures, c .before .with-count .ensures, c .before .before .latched .ensures, c .before .before .before .counted .ensures)
+returns c =
+    rw (
+      c .latching .ensures,
+      c .before .with-count .ensures,
+      c .before .before .latched .ensures,
+      c .before .before .before .counted .ensures,
+    )
 
 pub flip-flop-rule-spec : {M : Type 1} → statement M
 flip-flop-rule-spec =

@@ -26,14 +26,20 @@ held-requires-2 c κs = search needs
 
 returns-2 : tie.Need-returns-2
 returns-2 c =
-    rw (le-ltb 0 _ (c .before .before .before .before .if1 .left), sym (c .before .before .before .fires .ensures) ∙ c .before .before .if2 .taken) (rw (c .held2 .ensures, c .before .fallen2 .ensures))
+    rw (
+      le-ltb 0 _ (c .before .before .before .before .if1 .left),
+      sym (c .before .before .before .fires .ensures) ∙ c .before .before .if2 .taken,
+    ) (rw (c .held2 .ensures, c .before .fallen2 .ensures))
 
 held-requires-3 : tie.Need-held-requires-3
 held-requires-3 c κs = search needs
 
 returns-3 : tie.Need-returns-3
 returns-3 c =
-    rw (le-ltb 0 _ (c .before .before .before .if1 .left), sym (c .before .before .fires .ensures) ∙ c .before .if2 .left) (c .held3 .ensures)
+    rw (
+      le-ltb 0 _ (c .before .before .before .if1 .left),
+      sym (c .before .before .fires .ensures) ∙ c .before .if2 .left,
+    ) (c .held3 .ensures)
 
 pub hold-rule-spec : {M : Type 1} → statement M
 hold-rule-spec =

@@ -23,7 +23,12 @@ accepted-requires-2 : tie.Need-accepted-requires-2
 accepted-requires-2 c κs = search needs
 
 returns-2 : tie.Need-returns-2
-returns-2 c = rw (c .before .before .before .before .if1 .left) (rw (c .accepted2 .ensures, c .before .before .with-count2 .ensures, c .before .before .before .fallen .ensures))
+returns-2 c =
+    rw (c .before .before .before .before .if1 .left) (rw (
+      c .accepted2 .ensures,
+      c .before .before .with-count2 .ensures,
+      c .before .before .before .fallen .ensures,
+    ))
 
 pub reset-delay-rule-spec : {M : Type 1} → statement M
 reset-delay-rule-spec =

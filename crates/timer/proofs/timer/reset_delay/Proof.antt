@@ -19,7 +19,13 @@ answered-requires c κs = search needs
 
 returns : tie.Need-returns
 unfolding timerAnswer
-returns c = rw (c .answered .ensures, c .before .refusal-of .ensures, c .before .before .reset-delay-rule .ensures, c .before .before .before .input-of .ensures)
+returns c =
+    rw (
+      c .answered .ensures,
+      c .before .refusal-of .ensures,
+      c .before .before .reset-delay-rule .ensures,
+      c .before .before .before .input-of .ensures,
+    )
 
 pub reset-delay-spec : {M : Type 1} → statement M
 reset-delay-spec =
