@@ -33,11 +33,12 @@ fn refused(refusal: u32, state: TimerState) -> Timed
 pub(crate) fn answered(refusal: u32, reset: bool, state: TimerState, ruled: Timed) -> Timed
     ensures { λ r. ⌜ r ≡ answered refusal reset state ruled ⌝ }
 {
+    let fresh = TimerState::fresh();
     if refusal != 0 {
         return refused(refusal, state);
     }
     if reset {
-        return accepted(TimerState::fresh(), false);
+        return accepted(fresh, false);
     }
     ruled
 }
