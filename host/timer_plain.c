@@ -7,10 +7,10 @@
 
 #define LONGEST 32 /* ticks in a run */
 
-enum block { SET_DELAY, HOLD, RESET_DELAY, FLIP_FLOP };
+enum kind { SET_DELAY, HOLD, RESET_DELAY, FLIP_FLOP };
 enum combination { PLAIN, OR, AND, OR_AND };
 
-static const char *const block_names[] = {"set delay", "hold", "reset delay", "flip-flop"};
+static const char *const kind_names[] = {"set delay", "hold", "reset delay", "flip-flop"};
 static const char *const combination_names[] = {"plain", "or", "and", "or-and"};
 
 struct state {
@@ -24,7 +24,7 @@ struct inputs {
 
 /* A timer under test: the state it began with, and its inputs since; [0] is not used. */
 struct bench {
-    enum block block;
+    enum kind kind;
     enum combination combination;
     uint32_t d;
     struct state from;
@@ -88,7 +88,7 @@ static uint64_t left(uint64_t until, uint32_t t)
 static bool output(const struct bench *b)
 {
     uint32_t t = b->ticks;
-    switch (b->block) {
+    switch (b->kind) {
     case SET_DELAY:
         return ticks_on(b, t) > b->d;
     case HOLD:
@@ -104,7 +104,7 @@ static struct state state_of(const struct bench *b)
 {
     uint32_t t = b->ticks;
     struct state s = b->from;
-    switch (b->block) {
+    switch (b->kind) {
     case HOLD:
         s.count = (uint32_t)left(held_until(b, t), t);
         if (t > 0)
@@ -149,8 +149,8 @@ static int tick(struct bench *b, struct inputs in, bool *on)
         return 0;
     }
     b->ticks++;
-    b->input[b->ticks] = b->block == FLIP_FLOP ? in.start : combined(b->combination, in);
-    b->trip[b->ticks] = b->block == FLIP_FLOP && in.or_input && !in.and_input;
+    b->input[b->ticks] = b->kind == FLIP_FLOP ? in.start : combined(b->combination, in);
+    b->trip[b->ticks] = b->kind == FLIP_FLOP && in.or_input && !in.and_input;
     *on = output(b);
     return 0;
 }
@@ -162,6 +162,12 @@ static void write_state(struct state s)
     printf("%lu,%d,%d", (unsigned long)s.count, s.previous, s.latch);
 }
 
+static void write_begin(const struct bench *b)
+{
+    printf("%s, d %lu, from ", kind_names[b->kind], (unsigned long)b->d);
+    write_state(b->from);
+}
+
 static void write_tick(struct bench *b, struct inputs in)
 {
     bool on;
@@ -171,26 +177,30 @@ static void write_tick(struct bench *b, struct inputs in)
         putchar(on ? '1' : '0');
 }
 
+static void table(enum kind kind, enum combination combination, uint32_t d)
+{
+    const struct bench given = {.kind = kind, .combination = combination, .d = d, .from = fresh};
+    write_begin(&given);
+    printf(", %s, all inputs: ", combination_names[combination]);
+    for (int n = 0; n < 16; n++) {
+        struct bench b = given;
+        write_tick(&b, (struct inputs){n & 1, n & 2, n & 4, n & 8});
+    }
+    putchar('\n');
+}
+
 static void tables(void)
 {
     for (int c = PLAIN; c <= OR_AND; c++)
-        for (int k = SET_DELAY; k <= FLIP_FLOP; k++) {
-            uint32_t d = k == HOLD ? 1 : 0;
-            printf("%s, %s, d %lu, all inputs: ", block_names[k], combination_names[c], (unsigned long)d);
-            for (int n = 0; n < 16; n++) {
-                struct bench b = {.block = k, .combination = c, .d = d, .from = fresh};
-                write_tick(&b, (struct inputs){n & 1, n & 2, n & 4, n & 8});
-            }
-            putchar('\n');
-        }
+        for (int k = SET_DELAY; k <= FLIP_FLOP; k++)
+            table(k, c, k == HOLD ? 1 : 0);
 }
 
-static void limit(enum block block, uint32_t count, uint32_t d, bool reset)
+static void limit(enum kind kind, uint32_t count, uint32_t d, bool reset)
 {
-    struct bench b = {.block = block, .combination = PLAIN, .d = d, .from = {count, true, true}};
+    struct bench b = {.kind = kind, .combination = PLAIN, .d = d, .from = {count, true, true}};
     bool on;
-    printf("%s, d %lu, from ", block_names[block], (unsigned long)d);
-    write_state(b.from);
+    write_begin(&b);
     printf(", reset %d: refusal ", reset);
     int refusal = tick(&b, (struct inputs){.start = true, .reset = reset}, &on);
     printf("%d, %d; ", refusal, on);
@@ -223,12 +233,11 @@ static struct inputs draw(uint32_t density, bool resets)
     };
 }
 
-static void run(enum block block, enum combination combination, struct state from, uint32_t d, uint32_t density, bool resets)
+static void run(enum kind kind, enum combination combination, struct state from, uint32_t d, uint32_t density, bool resets)
 {
-    struct bench b = {.block = block, .combination = combination, .d = d, .from = from};
-    printf("%s, %s, d %lu, from ", block_names[block], combination_names[combination], (unsigned long)d);
-    write_state(from);
-    printf(", on %lu/16, resets %d: ", (unsigned long)density, resets);
+    struct bench b = {.kind = kind, .combination = combination, .d = d, .from = from};
+    write_begin(&b);
+    printf(", %s, on %lu/16, resets %d: ", combination_names[combination], (unsigned long)density, resets);
     for (int i = 0; i < LONGEST; i++)
         write_tick(&b, draw(density, resets));
     printf("; ");
@@ -236,13 +245,13 @@ static void run(enum block block, enum combination combination, struct state fro
     putchar('\n');
 }
 
-static void each_delay_and_state(enum block block, enum combination combination, uint32_t density, bool resets)
+static void each_delay_and_state(enum kind kind, enum combination combination, uint32_t density, bool resets)
 {
     static const struct state from[] = {{0, false, false}, {3, true, false}, {59990, false, false}, {60001, true, true}};
     static const uint32_t delays[] = {0, 1, 2, 5, 60000};
     for (int s = 0; s < 4; s++)
         for (int d = 0; d < 5; d++)
-            run(block, combination, from[s], delays[d], density, resets);
+            run(kind, combination, from[s], delays[d], density, resets);
 }
 
 static void runs(void)

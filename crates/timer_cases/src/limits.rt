@@ -1,7 +1,7 @@
 // Counts and delays at their limits and over them, without reset and with it.
-use crate::blocks::Block;
-use crate::blocks::say_block;
-use crate::blocks::tick;
+use crate::kinds::Kind;
+use crate::kinds::say_begin;
+use crate::kinds::tick;
 use crate::line::say;
 use crate::line::say_bit;
 use crate::line::say_number;
@@ -10,7 +10,7 @@ use timer::Combination;
 use timer::Inputs;
 use timer::TimerState;
 
-fn call(block: Block, state: TimerState, d: u32, reset: bool) {
+fn call(kind: Kind, state: TimerState, d: u32, reset: bool) {
     let inputs = Inputs {
         combination: Combination::Plain,
         start: true,
@@ -18,12 +18,8 @@ fn call(block: Block, state: TimerState, d: u32, reset: bool) {
         and_input: false,
         reset,
     };
-    let timed = tick(block, state, d, inputs);
-    say_block(block);
-    say(b", d ");
-    say_number(d);
-    say(b", from ");
-    say_state(state);
+    let timed = tick(kind, state, d, inputs);
+    say_begin(kind, d, state);
     say(b", reset ");
     say_bit(reset);
     say(b": refusal ");
@@ -35,30 +31,30 @@ fn call(block: Block, state: TimerState, d: u32, reset: bool) {
     say(b"\n");
 }
 
-fn limit(block: Block, count: u32, d: u32) {
+fn limit(kind: Kind, count: u32, d: u32) {
     let state = TimerState {
         count,
         previous: true,
         latch: true,
     };
-    call(block, state, d, false);
-    call(block, state, d, true);
+    call(kind, state, d, false);
+    call(kind, state, d, true);
 }
 
-fn each_limit(block: Block) {
-    limit(block, 60000, 60000);
-    limit(block, 60001, 60000);
-    limit(block, 60002, 60000);
-    limit(block, 60001, 60001);
-    limit(block, 60002, 60001);
-    limit(block, 0, 4294967295);
-    limit(block, 4294967295, 0);
-    limit(block, 4294967295, 4294967295);
+fn each_limit(kind: Kind) {
+    limit(kind, 60000, 60000);
+    limit(kind, 60001, 60000);
+    limit(kind, 60002, 60000);
+    limit(kind, 60001, 60001);
+    limit(kind, 60002, 60001);
+    limit(kind, 0, 4294967295);
+    limit(kind, 4294967295, 0);
+    limit(kind, 4294967295, 4294967295);
 }
 
 pub(crate) fn limits() {
-    each_limit(Block::SetDelay);
-    each_limit(Block::Hold);
-    each_limit(Block::ResetDelay);
-    each_limit(Block::FlipFlop);
+    each_limit(Kind::SetDelay);
+    each_limit(Kind::Hold);
+    each_limit(Kind::ResetDelay);
+    each_limit(Kind::FlipFlop);
 }

@@ -13,11 +13,7 @@ pub(crate) fn say_number(n: u32) {
 }
 
 pub(crate) fn say_bit(on: bool) {
-    if on {
-        say(b"1");
-    } else {
-        say(b"0");
-    }
+    io::print_decimal(STDOUT_FILENO, on as u64);
 }
 
 // Count, previous input and latch.

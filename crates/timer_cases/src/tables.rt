@@ -1,10 +1,9 @@
 // Each combination with all its inputs, from the fresh state.
-use crate::blocks::Block;
-use crate::blocks::say_block;
-use crate::blocks::tick;
+use crate::kinds::Kind;
+use crate::kinds::say_begin;
+use crate::kinds::tick;
 use crate::line::say;
 use crate::line::say_combination;
-use crate::line::say_number;
 use crate::line::say_tick;
 use timer::Combination;
 use timer::Inputs;
@@ -21,30 +20,33 @@ fn inputs_of(combination: Combination, n: u32) -> Inputs {
     }
 }
 
-fn table(block: Block, combination: Combination, d: u32) {
-    say_block(block);
-    say_combination(combination);
-    say(b", d ");
-    say_number(d);
-    say(b", all inputs: ");
+fn all_inputs(kind: Kind, combination: Combination, d: u32, from: TimerState) {
     let mut n = 0;
     while n < 16 {
-        say_tick(tick(block, TimerState::fresh(), d, inputs_of(combination, n)));
+        say_tick(tick(kind, from, d, inputs_of(combination, n)));
         n += 1;
     }
+}
+
+fn table(kind: Kind, combination: Combination, d: u32) {
+    let fresh = TimerState::fresh();
+    say_begin(kind, d, fresh);
+    say_combination(combination);
+    say(b", all inputs: ");
+    all_inputs(kind, combination, d, fresh);
     say(b"\n");
 }
 
-fn each_block(combination: Combination) {
-    table(Block::SetDelay, combination, 0);
-    table(Block::Hold, combination, 1);
-    table(Block::ResetDelay, combination, 0);
-    table(Block::FlipFlop, combination, 0);
+fn each_kind(combination: Combination) {
+    table(Kind::SetDelay, combination, 0);
+    table(Kind::Hold, combination, 1);
+    table(Kind::ResetDelay, combination, 0);
+    table(Kind::FlipFlop, combination, 0);
 }
 
 pub(crate) fn combinations() {
-    each_block(Combination::Plain);
-    each_block(Combination::Or);
-    each_block(Combination::And);
-    each_block(Combination::OrAnd);
+    each_kind(Combination::Plain);
+    each_kind(Combination::Or);
+    each_kind(Combination::And);
+    each_kind(Combination::OrAnd);
 }
