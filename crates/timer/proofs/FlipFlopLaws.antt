@@ -1,18 +1,21 @@
 -- The flip-flop in words, over a run of ticks.
 -- Assumes nothing.
-use Prim.Native.Nat.{ℕ}
+use Prim.Native.Nat.{ℕ, min}
+use native.Mathlib.Numerals.{add-one}
 use mathlib.Core.Bool.{Bool, true, false}
 use mathlib.Core.List.{List, [], _∷_}
 use mathlib.Core.Path.{_≡_, refl}
+use borrow.Author.Tests.{leb-true}
 use lib.Dec.{leb}
 use Rattle.timer.specs.Answer.{accepted}
-use Rattle.timer.specs.Rules.{counted}
+use Rattle.timer.specs.Rules.{counted, byRule}
 use Rattle.timer.specs.Rules.Rule.{flipFlop}
-use Rattle.timer.specs.State.{delayLimit, freshTimer, validTimer, withCount}
+use Rattle.timer.specs.State.{countLimit, delayLimit, freshTimer, validTimer, withCount}
 use Rattle.timer.specs.Timer.{flipFlopAnswer}
 use Rattle.timer.specs.declared.state.TimerState.{TimerState}
 use Rattle.timer.proofs.Accepted.{accepted-by-rule, reset-makes-fresh, rule-leaves-valid}
-use Rattle.timer.proofs.Runs.{outputs, stateAfter, SetTrip, flipFlopBy, onThroughout}
+use Rattle.timer.proofs.Counting.{onInARow, counted-in-a-row, over-d-is-latest-on}
+use Rattle.timer.proofs.Runs.{outputs, stateAfter, eachTick, latchedSoFar, SetTrip, flipFlopBy, onThroughout}
 
 -- Without reset, the flip-flop is on exactly while it is latched.
 pub flip-flop-on-is-latched : (d : ℕ) (state : TimerState) (inputs : SetTrip) → leb d delayLimit ≡ true
@@ -51,3 +54,27 @@ flip-flop-stays-on-until-reset d state fits valid latch (inputs ∷ rest) =
 pub flip-flop-reset-makes-off-and-fresh : (d : ℕ) (state : TimerState) (set trip : Bool) → leb d delayLimit ≡ true
     → validTimer state ≡ true → flipFlopAnswer state d set trip true ≡ accepted freshTimer false
 flip-flop-reset-makes-off-and-fresh d state set trip fits valid = reset-makes-fresh (flipFlop set trip) state d valid fits
+
+-- ---- from fresh
+
+from-history : (d : ℕ) → leb d delayLimit ≡ true → (earlier : List SetTrip) (state : TimerState)
+    → validTimer state ≡ true
+    → state .count ≡ min (onInARow (λ i. i .set) earlier) countLimit → state .latch ≡ latchedSoFar d earlier
+    → (ticks : List SetTrip) → outputs (flipFlopBy d) state ticks ≡ eachTick (latchedSoFar d) earlier ticks
+unfolding outputs eachTick latchedSoFar
+from-history d fits earlier state valid e latch [] = refl
+from-history d fits earlier state valid e latch (inputs ∷ rest) =
+    let rule = flipFlop (inputs .set) (inputs .trip) in
+    let next = byRule rule d state .state in
+    let count = counted-in-a-row (λ i. i .set) inputs earlier (state .count) e in
+    let over = over-d-is-latest-on (λ i. i .set) d (next .count) (inputs ∷ earlier) (leb-true d delayLimit fits) count in
+    let latched : next .latch ≡ latchedSoFar d (inputs ∷ earlier) = rw (latchedSoFar, add-one d, over, latch) in
+    let then = from-history d fits (inputs ∷ earlier) next (rule-leaves-valid rule d state valid fits) count latched rest in
+    rw (outputs, accepted-by-rule rule state d valid fits, then, latched)
+
+-- From fresh and without reset, the flip-flop is on at a tick exactly when at that tick or an earlier one the set input was on
+-- for the (d + 1)-th time in a row, or the trip input was on.
+pub flip-flop-on-exactly-when-latched-so-far : (d : ℕ) → leb d delayLimit ≡ true → (ticks : List SetTrip)
+    → outputs (flipFlopBy d) freshTimer ticks ≡ eachTick (latchedSoFar d) [] ticks
+unfolding onInARow latchedSoFar
+flip-flop-on-exactly-when-latched-so-far d fits ticks = from-history d fits [] freshTimer refl refl refl ticks

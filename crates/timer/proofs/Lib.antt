@@ -1,6 +1,7 @@
 pub mod Runs
 pub mod Accepted
 pub mod RefusalLaws
+pub mod Counting
 pub mod SetDelayLaws
 pub mod HoldLaws
 pub mod ResetDelayLaws

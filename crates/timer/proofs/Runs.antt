@@ -1,6 +1,6 @@
 -- Runs of many ticks: what the laws on timers are stated with.
-use Prim.Native.Nat.{ℕ, zero, suc}
-use mathlib.Core.Bool.{Bool, true, false, _&&_}
+use Prim.Native.Nat.{ℕ, zero, suc, _+_}
+use mathlib.Core.Bool.{Bool, true, false, _&&_, _||_}
 use mathlib.Core.List.{List, [], _∷_}
 use mathlib.Core.Path.{_≡_}
 use Rattle.timer.specs.Inputs.{inputOf}
@@ -48,16 +48,28 @@ flipFlopBy d state inputs = flipFlopAnswer state d (inputs .set) (inputs .trip) 
 
 -- ---- what is said of the inputs of a run
 
--- there are n ticks, and at the n latest the input was on; the latest tick stands first
-unfoldable pub latestOn : ℕ → List Inputs → Bool
-latestOn zero history = true
-latestOn (suc n) [] = false
-latestOn (suc n) (inputs ∷ earlier) = inputOf inputs && latestOn n earlier
-
 -- at each tick, what `said` says of the history that ends with it; the latest tick stands first in a history
-unfoldable pub eachTick : (List Inputs → Bool) → List Inputs → List Inputs → List Bool
+unfoldable pub eachTick : {I : Type 0} → (List I → Bool) → List I → List I → List Bool
 eachTick said earlier [] = []
 eachTick said earlier (inputs ∷ rest) = said (inputs ∷ earlier) ∷ eachTick said (inputs ∷ earlier) rest
+
+-- there are n ticks, and at the n latest the input was on
+unfoldable pub latestOn : {I : Type 0} → (I → Bool) → ℕ → List I → Bool
+latestOn input zero history = true
+latestOn input (suc n) [] = false
+latestOn input (suc n) (inputs ∷ earlier) = input inputs && latestOn input n earlier
+
+-- at one of the n latest ticks the input was on
+unfoldable pub oneOfLatestOn : {I : Type 0} → (I → Bool) → ℕ → List I → Bool
+oneOfLatestOn input zero history = false
+oneOfLatestOn input (suc n) [] = false
+oneOfLatestOn input (suc n) (inputs ∷ earlier) = input inputs || oneOfLatestOn input n earlier
+
+-- at one of the ticks so far the set input was on for the (d + 1)-th time in a row, or the trip input was on
+unfoldable pub latchedSoFar : ℕ → List SetTrip → Bool
+latchedSoFar d [] = false
+latchedSoFar d (inputs ∷ earlier) =
+    latchedSoFar d earlier || (latestOn (λ i. i .set) (d + 1) (inputs ∷ earlier) || inputs .trip)
 
 -- the input at the last tick, or the previous one where there is none
 unfoldable pub lastInput : Bool → List Inputs → Bool

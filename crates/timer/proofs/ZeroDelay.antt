@@ -30,7 +30,7 @@ hold-0-from state e (inputs ∷ rest) =
 pub hold-0-never-on : (ticks : List Inputs) → outputs (holdBy 0) freshTimer ticks ≡ map (λ inputs. false) ticks
 hold-0-never-on ticks = hold-0-from freshTimer refl ticks
 
-latest-1-is-the-input : (earlier ticks : List Inputs) → eachTick (latestOn 1) earlier ticks ≡ map inputOf ticks
+latest-1-is-the-input : (earlier ticks : List Inputs) → eachTick (latestOn inputOf 1) earlier ticks ≡ map inputOf ticks
 unfolding eachTick latestOn
 latest-1-is-the-input earlier [] = refl
 latest-1-is-the-input earlier (inputs ∷ rest) =
