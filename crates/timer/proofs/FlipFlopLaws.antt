@@ -57,19 +57,19 @@ flip-flop-reset-makes-off-and-fresh d state set trip fits valid = reset-makes-fr
 
 -- ---- from fresh
 
-from-history : (d : ℕ) → leb d delayLimit ≡ true → (earlier : List SetTrip) (state : TimerState)
+flip-flop-from-history : (d : ℕ) → leb d delayLimit ≡ true → (earlier : List SetTrip) (state : TimerState)
     → validTimer state ≡ true
     → state .count ≡ min (onInARow (λ i. i .set) earlier) countLimit → state .latch ≡ latchedSoFar d earlier
     → (ticks : List SetTrip) → outputs (flipFlopBy d) state ticks ≡ eachTick (latchedSoFar d) earlier ticks
 unfolding outputs eachTick latchedSoFar
-from-history d fits earlier state valid e latch [] = refl
-from-history d fits earlier state valid e latch (inputs ∷ rest) =
+flip-flop-from-history d fits earlier state valid e latch [] = refl
+flip-flop-from-history d fits earlier state valid e latch (inputs ∷ rest) =
     let rule = flipFlop (inputs .set) (inputs .trip) in
     let next = byRule rule d state .state in
     let count = counted-in-a-row (λ i. i .set) inputs earlier (state .count) e in
     let over = over-d-is-latest-on (λ i. i .set) d (next .count) (inputs ∷ earlier) (leb-true d delayLimit fits) count in
     let latched : next .latch ≡ latchedSoFar d (inputs ∷ earlier) = rw (latchedSoFar, add-one d, over, latch) in
-    let then = from-history d fits (inputs ∷ earlier) next (rule-leaves-valid rule d state valid fits) count latched rest in
+    let then = flip-flop-from-history d fits (inputs ∷ earlier) next (rule-leaves-valid rule d state valid fits) count latched rest in
     rw (outputs, accepted-by-rule rule state d valid fits, then, latched)
 
 -- From fresh and without reset, the flip-flop is on at a tick exactly when at that tick or an earlier one the set input was on
@@ -77,4 +77,4 @@ from-history d fits earlier state valid e latch (inputs ∷ rest) =
 pub flip-flop-on-exactly-when-latched-so-far : (d : ℕ) → leb d delayLimit ≡ true → (ticks : List SetTrip)
     → outputs (flipFlopBy d) freshTimer ticks ≡ eachTick (latchedSoFar d) [] ticks
 unfolding onInARow latchedSoFar
-flip-flop-on-exactly-when-latched-so-far d fits ticks = from-history d fits [] freshTimer refl refl refl ticks
+flip-flop-on-exactly-when-latched-so-far d fits ticks = flip-flop-from-history d fits [] freshTimer refl refl refl ticks

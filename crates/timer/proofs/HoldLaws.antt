@@ -5,13 +5,13 @@ use native.Mathlib.Omega.{arith}
 use mathlib.Core.Bool.{Bool, true, false, cond, not, _&&_, and-true}
 use mathlib.Core.List.{List, [], _∷_}
 use mathlib.Core.Path.{_≡_, refl, _∙_, ap}
-use borrow.Author.Tests.{lt-ltb}
+use borrow.Author.Tests.{le-leb, lt-ltb}
 use lib.Dec.{leb}
 use lib.ListN.{length}
 use Rattle.timer.specs.Answer.{accepted}
 use Rattle.timer.specs.Inputs.{inputOf}
 use Rattle.timer.specs.Rules.Rule.{hold}
-use Rattle.timer.specs.State.{delayLimit, validTimer}
+use Rattle.timer.specs.State.{countLimit, delayLimit}
 use Rattle.timer.specs.declared.answer.Timed.{Timed}
 use Rattle.timer.specs.declared.inputs.Inputs.{Inputs}
 use Rattle.timer.specs.declared.state.TimerState.{TimerState}
@@ -55,9 +55,9 @@ on-if true fired idle on off = on
 on-if false fired idle on off = off
 
 -- no count left: on exactly at a rise
-spent-tick : (d : ℕ) (state : TimerState) (next : Inputs) → state .count ≡ 0 → 0 < d
+at-0-on-at-a-rise : (d : ℕ) (state : TimerState) (next : Inputs) → state .count ≡ 0 → 0 < d
     → ruledBy hold d state next .on ≡ inputOf next && not (state .previous)
-spent-tick d state next count above =
+at-0-on-at-a-rise d state next count above =
     let rises = inputOf next && not (state .previous) in
     rw (count, lt-ltb 0 d above, and-true rises) (on-if rises _ _ refl refl)
 
@@ -68,16 +68,17 @@ pub record OnForDelay (d : ℕ) (state : TimerState) (ticks : List Inputs) : Typ
   pub then-on-at-a-rise : (next : Inputs) → next .reset ≡ false
       → holdBy d (stateAfter (holdBy d) state ticks) next .on ≡ inputOf next && not (lastInput false ticks)
 
--- From a valid state with count 0 and the previous input off, let the input be on at a tick, and whatever it does at the ticks
+-- From a state with count 0 and the previous input off, let the input be on at a tick, and whatever it does at the ticks
 -- after it, without reset: at d ticks, that one the first, Hold is on, and then its count is 0; at the next tick it is on
 -- exactly if there is another rise, the input on and the one before off.
 pub hold-on-for-d-ticks-from-a-rise : (d : ℕ) (state : TimerState) (rise : Inputs) (later : List Inputs)
-    → leb d delayLimit ≡ true → validTimer state ≡ true → state .count ≡ 0 → state .previous ≡ false
-    → inputOf rise ≡ true → WithoutReset (rise ∷ later) → length (rise ∷ later) ≡ d
+    → leb d delayLimit ≡ true → state .count ≡ 0 → state .previous ≡ false → inputOf rise ≡ true
+    → WithoutReset (rise ∷ later) → length (rise ∷ later) ≡ d
     → OnForDelay d state (rise ∷ later)
 unfolding outputs stateAfter lastInput
-hold-on-for-d-ticks-from-a-rise d state rise later fits valid count off on none long =
+hold-on-for-d-ticks-from-a-rise d state rise later fits count off on none long =
     let after = stateAfter (ruledBy hold d) state (rise ∷ later) in
+    let valid = le-leb (state .count) countLimit (omega (arith, count)) in
     let run = run-goes-by-rule hold d state (rise ∷ later) valid fits none in
     let above : 0 < d = omega (arith, long) in
     let falls : d - 1 ≡ length later = omega (arith, long) in
@@ -90,5 +91,5 @@ hold-on-for-d-ticks-from-a-rise d state rise later fits valid count off on none 
       count-is-0 = ap (λ s. s .count) (run .state-same) ∙ spent;
       then-on-at-a-rise = λ next unreset.
           rw (run .state-same, unreset, accepted-by-rule (hold (inputOf next)) after d (run .leaves-valid) fits)
-          (spent-tick d after next spent above ∙ ap (λ previous. inputOf next && not previous) remembered);
+          (at-0-on-at-a-rise d after next spent above ∙ ap (λ previous. inputOf next && not previous) remembered);
     }

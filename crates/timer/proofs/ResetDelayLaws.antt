@@ -19,13 +19,15 @@ use Rattle.timer.specs.declared.state.TimerState.{TimerState}
 use Rattle.timer.proofs.Accepted.{ruledBy, run-goes-by-rule}
 use Rattle.timer.proofs.Runs.{outputs, WithoutReset, resetDelayBy, eachTick, oneOfLatestOn, AllOff, onForFirst}
 
-spent-tick : (d : ℕ) (state : TimerState) (inputs : Inputs) → state .count ≡ 0 → inputOf inputs ≡ false
-    → ruledBy resetDelay d state inputs ≡ accepted (withCount 0 state) false
-spent-tick d state inputs e off = rw (off, e)
+-- ---- after the input
 
-fallen-tick : (d n : ℕ) (state : TimerState) (inputs : Inputs) → state .count ≡ suc n → inputOf inputs ≡ false
+at-0-off : (d : ℕ) (state : TimerState) (inputs : Inputs) → state .count ≡ 0 → inputOf inputs ≡ false
+    → ruledBy resetDelay d state inputs ≡ accepted (withCount 0 state) false
+at-0-off d state inputs e off = rw (off, e)
+
+above-0-on : (d n : ℕ) (state : TimerState) (inputs : Inputs) → state .count ≡ suc n → inputOf inputs ≡ false
     → ruledBy resetDelay d state inputs ≡ accepted (withCount n state) true
-fallen-tick d n state inputs e off =
+above-0-on d n state inputs e off =
     let falls : state .count - 1 ≡ n = omega (arith, e) in
     rw (off, lt-ltb 0 (state .count) (omega (arith, e)), falls)
 
@@ -34,9 +36,9 @@ off-run : (d n : ℕ) (state : TimerState) → state .count ≡ n → (ticks : L
 unfolding outputs AllOff onForFirst
 off-run d n state e [] off = refl
 off-run d zero state e (inputs ∷ rest) off =
-    rw (spent-tick d state inputs e (off .0), off-run d zero (withCount 0 state) refl rest (off .1))
+    rw (at-0-off d state inputs e (off .0), off-run d zero (withCount 0 state) refl rest (off .1))
 off-run d (suc n) state e (inputs ∷ rest) off =
-    rw (fallen-tick d n state inputs e (off .0), off-run d n (withCount n state) refl rest (off .1))
+    rw (above-0-on d n state inputs e (off .0), off-run d n (withCount n state) refl rest (off .1))
 
 -- From a valid state and without reset, let the input be on at a tick and off at those after it: Reset delay is on at the tick
 -- with the input on, on at exactly the first d of those after it, and off at the others.
@@ -88,12 +90,12 @@ rule-count : (d : ℕ) (on : Bool) (state : TimerState)
 rule-count d true state = refl
 rule-count d false state = refl
 
-from-history : (d : ℕ) (earlier : List Inputs) (state : TimerState) → state .count ≡ ticksLeft d earlier
+reset-delay-from-history : (d : ℕ) (earlier : List Inputs) (state : TimerState) → state .count ≡ ticksLeft d earlier
     → (ticks : List Inputs)
     → outputs (ruledBy resetDelay d) state ticks ≡ eachTick (oneOfLatestOn inputOf (suc d)) earlier ticks
 unfolding outputs eachTick oneOfLatestOn ticksLeft
-from-history d earlier state e [] = refl
-from-history d earlier state e (inputs ∷ rest) =
+reset-delay-from-history d earlier state e [] = refl
+reset-delay-from-history d earlier state e (inputs ∷ rest) =
     let none-over : d - d ≡ 0 = omega arith in
     let left : oneOfLatestOn inputOf d earlier ≡ ltb 0 (state .count) =
     rw (one-of-latest-on-is-left d d earlier (omega arith), none-over, e) in
@@ -101,7 +103,7 @@ from-history d earlier state e (inputs ∷ rest) =
     rw (
       rule-on d (inputOf inputs) state,
       left,
-      from-history d (inputs ∷ earlier) (resetDelayRule d (inputOf inputs) state .state) count rest,
+      reset-delay-from-history d (inputs ∷ earlier) (resetDelayRule d (inputOf inputs) state .state) count rest,
     )
 
 -- From fresh and without reset, Reset delay is on at a tick exactly when the input was on at one of the last d + 1 ticks, this
@@ -112,4 +114,4 @@ unfolding ticksLeft
 reset-delay-on-exactly-when-one-of-last-d+1-on d fits ticks none =
     rw (add-one d)
     (run-goes-by-rule resetDelay d freshTimer ticks refl fits none .outputs-same
-    ∙ from-history d [] freshTimer refl ticks)
+    ∙ reset-delay-from-history d [] freshTimer refl ticks)

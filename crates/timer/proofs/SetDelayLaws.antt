@@ -16,17 +16,17 @@ use Rattle.timer.proofs.Accepted.{ruledBy, run-goes-by-rule}
 use Rattle.timer.proofs.Counting.{onInARow, counted-in-a-row, over-d-is-latest-on}
 use Rattle.timer.proofs.Runs.{outputs, WithoutReset, setDelayBy, latestOn, eachTick}
 
-from-history : (d : ℕ) → d ≤ delayLimit → (earlier : List Inputs) (state : TimerState)
+set-delay-from-history : (d : ℕ) → d ≤ delayLimit → (earlier : List Inputs) (state : TimerState)
     → state .count ≡ min (onInARow inputOf earlier) countLimit → (ticks : List Inputs)
     → outputs (ruledBy setDelay d) state ticks ≡ eachTick (latestOn inputOf (suc d)) earlier ticks
 unfolding outputs eachTick
-from-history d h earlier state e [] = refl
-from-history d h earlier state e (inputs ∷ rest) =
+set-delay-from-history d h earlier state e [] = refl
+set-delay-from-history d h earlier state e (inputs ∷ rest) =
     let next = ruledBy setDelay d state inputs .state in
     let count = counted-in-a-row inputOf inputs earlier (state .count) e in
     rw (
       over-d-is-latest-on inputOf d (next .count) (inputs ∷ earlier) h count,
-      from-history d h (inputs ∷ earlier) next count rest,
+      set-delay-from-history d h (inputs ∷ earlier) next count rest,
     )
 
 -- From fresh and without reset, Set delay is on at a tick exactly when the input was on at the last d + 1 ticks, this one the
@@ -37,4 +37,4 @@ unfolding onInARow
 set-delay-on-exactly-when-last-d+1-on d fits ticks none =
     rw (add-one d)
     (run-goes-by-rule setDelay d freshTimer ticks refl fits none .outputs-same
-    ∙ from-history d (leb-true d delayLimit fits) [] freshTimer refl ticks)
+    ∙ set-delay-from-history d (leb-true d delayLimit fits) [] freshTimer refl ticks)
