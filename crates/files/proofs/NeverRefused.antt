@@ -12,7 +12,7 @@ use Rattle.phase.specs.Settings.{settingsRefusal}
 use Rattle.relay.specs.State.{clearRelay, validRelay}
 use Rattle.relay.specs.declared.tick.RelayTicked.{RelayTicked}
 use Rattle.relay.specs.Tick.{relayTickRefusal}
-use Rattle.relay.proofs.RelayLaws.{clear-relay-is-valid, tick-allowed, tick-accepted, allowed-keeps-valid}
+use Rattle.relay.proofs.RelayLaws.{clear-relay-is-valid, relay-tick-allowed, relay-tick-accepted, relay-tick-keeps-valid}
 use Rattle.files.specs.declared.progress.Progress.{Progress}
 use Rattle.files.specs.declared.progress.Stage.{Stage}
 use Rattle.files.specs.declared.progress.Stage.the-variants.{Opening, Running, Stopped}
@@ -69,11 +69,11 @@ opened-right p (settings-line.Accepted x) e h = (h x refl, rw e (clear-relay-is-
 opened-right p (settings-line.Refused n) e h = tt
 
 tick-right : (p : Progress) (x : Row) → Right Running p → x .block ≤ 1 → relayTickRefusal (p .settings) (p .relay) (x .block) ≡ 0
-tick-right p x right h = tick-allowed (p .settings) (p .relay) (x .block) (right .0) (right .1) h
+tick-right p x right h = relay-tick-allowed (p .settings) (p .relay) (x .block) (right .0) (right .1) h
 
 stepped-right : (p : Progress) (answer : RowRead) → Right Running p → ((x : Row) → answer ≡ row.Accepted x → x .block ≤ 1) → Right (stepped p answer .stage) (stepped p answer)
 stepped-right p (row.Accepted x) right h =
-    (right .0, allowed-keeps-valid (p .settings) (p .relay) (x .l1) (x .l2) (x .l3) (x .block) (tick-right p x right (h x refl)) (right .1))
+    (right .0, relay-tick-keeps-valid (p .settings) (p .relay) (x .l1) (x .l2) (x .l3) (x .block) (tick-right p x right (h x refl)) (right .1))
 stepped-right p (row.Refused n) right h = tt
 
 line-keeps : (stage : Stage) (p : Progress) (l : List ℕ) → p .stage ≡ stage → Right stage p → let q : Progress = afterBy stage p l in Right (q .stage) q
@@ -95,4 +95,4 @@ pub no-tick-refused : (ls : List (List ℕ)) (l : List ℕ) (x : Row) → let p 
 no-tick-refused ls l x running e =
     let p = afterLines freshProgress ls in
     let right : Right Running p = rw running at (lines-keep freshProgress ls refl) in
-    ap (λ (t : RelayTicked). t .refusal) (tick-accepted (p .settings) (p .relay) (x .l1) (x .l2) (x .l3) (x .block) (tick-right p x right (accepted-block l (p .done) x e)))
+    ap (λ (t : RelayTicked). t .refusal) (relay-tick-accepted (p .settings) (p .relay) (x .l1) (x .l2) (x .l3) (x .block) (tick-right p x right (accepted-block l (p .done) x e)))

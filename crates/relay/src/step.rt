@@ -1,10 +1,7 @@
 // One tick of settings and a state that were checked before: what a tick and each turn of a batch do.
 ghost use mathlib.Core.Path.{_≡_};
-ghost use mathlib.Core.Bool.{true};
 ghost use Rattle.phase.specs.device.Pace.{paceOf};
-ghost use Rattle.phase.specs.device.Ranges.{InRange};
-ghost use Rattle.relay.specs.State.{validRelay};
-ghost use Rattle.relay.specs.Step.{Paced, pacesOf, stepOf};
+ghost use Rattle.relay.specs.device.Step.{StepReady, pacesOf, relayStep};
 use crate::outputs::output_byte;
 use crate::state::RelayState;
 use phase::Settings;
@@ -59,8 +56,8 @@ pub(crate) fn step(
     l3: u32,
     block: u8,
 ) -> Stepped
-    requires { ⌜ (InRange settings) × (validRelay settings relay ≡ true) × (Paced settings paces) ⌝ }
-    ensures { λ r. ⌜ r ≡ stepOf settings relay l1 l2 l3 block ⌝ }
+    requires { ⌜ StepReady settings relay paces ⌝ }
+    ensures { λ r. ⌜ r ≡ relayStep settings relay l1 l2 l3 block ⌝ }
 {
     let first = next_pace(settings, paces.l1, l1);
     let second = next_pace(settings, paces.l2, l2);

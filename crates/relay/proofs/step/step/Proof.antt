@@ -20,27 +20,30 @@ element-copy-out-tick-ready c = search needs
 
 tick-ready-requires : tie.Need-tick-ready-requires
 tick-ready-requires c κs =
-    let a = c .before .before .before .before .args in
-    let v = each-valid (a .settings) (a .t3) (c .before .before .before .before .pre .1) in
-    rw (c .before .before .before .next-pace .ensures) (ready (a .settings) _ (a .l1) (c .before .before .before .before .pre .0) (v .l1))
+    let start = c .before .before .before .before in
+    let a = start .args in
+    let v = each-valid (a .settings) (a .t3) (start .pre .valid) in
+    rw (c .before .before .before .next-pace .ensures) (ready (a .settings) _ (a .l1) (start .pre .range) (v .l1))
 
 element-copy-out-tick-ready-2 : tie.Need-element-copy-out-tick-ready-2
 element-copy-out-tick-ready-2 c = search needs
 
 tick-ready-requires-2 : tie.Need-tick-ready-requires-2
 tick-ready-requires-2 c κs =
-    let a = c .before .before .before .before .before .before .args in
-    let v = each-valid (a .settings) (a .t3) (c .before .before .before .before .before .before .pre .1) in
-    rw (c .before .before .before .before .next-pace2 .ensures) (ready (a .settings) _ (a .l2) (c .before .before .before .before .before .before .pre .0) (v .l2))
+    let start = c .before .before .before .before .before .before in
+    let a = start .args in
+    let v = each-valid (a .settings) (a .t3) (start .pre .valid) in
+    rw (c .before .before .before .before .next-pace2 .ensures) (ready (a .settings) _ (a .l2) (start .pre .range) (v .l2))
 
 element-copy-out-tick-ready-3 : tie.Need-element-copy-out-tick-ready-3
 element-copy-out-tick-ready-3 c = search needs
 
 tick-ready-requires-3 : tie.Need-tick-ready-requires-3
 tick-ready-requires-3 c κs =
-    let a = c .before .before .before .before .before .before .before .before .args in
-    let v = each-valid (a .settings) (a .t3) (c .before .before .before .before .before .before .before .before .pre .1) in
-    rw (c .before .before .before .before .before .next-pace3 .ensures) (ready (a .settings) _ (a .l3) (c .before .before .before .before .before .before .before .before .pre .0) (v .l3))
+    let start = c .before .before .before .before .before .before .before .before in
+    let a = start .args in
+    let v = each-valid (a .settings) (a .t3) (start .pre .valid) in
+    rw (c .before .before .before .before .before .next-pace3 .ensures) (ready (a .settings) _ (a .l3) (start .pre .range) (v .l3))
 
 output-byte-requires : tie.Need-output-byte-requires
 output-byte-requires c κs = search needs

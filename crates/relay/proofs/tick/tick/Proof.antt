@@ -4,7 +4,7 @@ use mathlib.Core.Bool.{cond}
 use mathlib.Core.Path.{_≡_, sym, _∙_, ap}
 use borrow.Author.Needs.{needs}
 use lib.Dec.{leb}
-use Rattle.relay.proofs.RelayLaws.{paces-are-paced, relay-passed, tick-accepted, tick-refused}
+use Rattle.relay.proofs.RelayLaws.{paces-are-paced, relay-passed, relay-tick-accepted, relay-tick-refused}
 use Rattle.checks.specs.Checks.{firstFailed}
 use Rattle.relay.specs.Tick.{relayChecks, relayTickRefusal}
 use Rattle.relay.specs.declared.step.Stepped.{Stepped}
@@ -24,7 +24,7 @@ returns c =
     let a = c .before .before .before .args in
     let e : c .before .relay-first-failed .result ≡ relayTickRefusal (a .settings) (a .state) (a .block)
     = c .before .relay-first-failed .ensures ∙ ap (λ n. firstFailed (relayChecks (a .settings) (a .state)) n) (c .before .before .first-failed .ensures) in
-    sym (tick-refused (a .settings) (a .state) (a .l1) (a .l2) (a .l3) (a .block) _ e (c .if1 .taken))
+    sym (relay-tick-refused (a .settings) (a .state) (a .l1) (a .l2) (a .l3) (a .block) _ e (c .if1 .taken))
 
 paces-of-requires : tie.Need-paces-of-requires
 paces-of-requires c κs = search needs
@@ -36,7 +36,7 @@ step-requires c κs =
     let e : c .before .before .relay-first-failed .result ≡ relayTickRefusal (a .settings) (a .state) (a .block)
     = c .before .before .relay-first-failed .ensures ∙ ap (λ n. firstFailed (relayChecks (a .settings) (a .state)) n) (c .before .before .before .first-failed .ensures) in
     let p = relay-passed (a .settings) (a .state) (cond (leb (a .block) 1) 0 14) (sym e ∙ c .before .if1 .left) in
-    (p .0, p .1, rw (c .paces-of .ensures) (paces-are-paced (a .settings) (a .l1) (a .l2) (a .l3)))
+    record { range = p .range; valid = p .valid; paced = rw (c .paces-of .ensures) (paces-are-paced (a .settings) (a .l1) (a .l2) (a .l3)) }
 
 returns-2 : tie.Need-returns-2
 unfolding relayTickRefusal
@@ -45,7 +45,7 @@ returns-2 c =
     let e : c .before .before .before .before .relay-first-failed .result ≡ relayTickRefusal (a .settings) (a .state) (a .block)
     = c .before .before .before .before .relay-first-failed .ensures ∙ ap (λ n. firstFailed (relayChecks (a .settings) (a .state)) n) (c .before .before .before .before .before .first-failed .ensures) in
     ap (λ (s : Stepped). ticked s) (c .before .step .ensures)
-    ∙ sym (tick-accepted (a .settings) (a .state) (a .l1) (a .l2) (a .l3) (a .block) (sym e ∙ c .before .before .before .if1 .left))
+    ∙ sym (relay-tick-accepted (a .settings) (a .state) (a .l1) (a .l2) (a .l3) (a .block) (sym e ∙ c .before .before .before .if1 .left))
   where
     ticked : Stepped → RelayTicked
     ticked s = record { refusal = 0; state = s .state; outputs = s .outputs }

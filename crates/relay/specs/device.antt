@@ -1,0 +1,3 @@
+-- Devices of the code and of its proofs.
+pub mod Step
+pub mod Run
