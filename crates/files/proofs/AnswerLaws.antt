@@ -10,20 +10,23 @@ use lib.ListN.{length}
 use borrow.Author.Tests.{eq-eqb, ne-eqb, le-leb, lt-leb, lt-ltb, leb-true, ltb-true}
 use Rattle.files.specs.declared.replay.Replay.{Replay}
 use Rattle.files.specs.declared.replay.Fed.{Fed}
-use Rattle.files.specs.Replay.{endOf, replayOf}
-use Rattle.files.specs.Portions.{freshReplay, refuse, fed, writes, takes, fedBy, fedIf, feedAnswer, writesIf, feedWrites, endIf, finishIf, finishWrites, Sound}
-use Rattle.files.proofs.Cases.{and-left, and-right}
-use Rattle.files.proofs.PortionLaws.{fed-sound, fresh-sound, feedAll, joined, replay-of-portions}
+use Rattle.text.specs.Lines.{joined}
+use Rattle.files.specs.Output.{endRoom}
+use Rattle.files.specs.Progress.{endOf, refuse}
+use Rattle.files.specs.Replay.{replayOf, longestLine, lineLimit, freshReplay, portionRoom, fed, writes, takes, fedBy, fedIf, feedAnswer, writesIf, feedWrites, endIf, finishIf, finishWrites}
+use Rattle.files.specs.device.Calls.{Sound}
+use Rattle.checks.proofs.Tests.{both-true}
+use Rattle.files.proofs.PortionLaws.{fed-sound, fresh-sound, feedAll, replay-of-portions}
 
 -- ---- feeding
 
 module _ (r : Replay) (s : List ℕ) (room : ℕ) where
-  module _ (e : takes r (length s) room ≡ true) where
-    pub taken-short : r .count < 46
-    taken-short = ltb-true (r .count) 46 (and-left (ltb (r .count) 46) (leb (r .count + length s) room) e)
+  module _ (e : takes (r .count) (length s) room ≡ true) where
+    pub taken-short : r .count < lineLimit
+    taken-short = ltb-true (r .count) lineLimit (both-true (ltb (r .count) lineLimit) (leb (portionRoom (r .count) (length s)) room) e .0)
 
-    pub taken-room : r .count + length s ≤ room
-    taken-room = leb-true (r .count + length s) room (and-right (ltb (r .count) 46) (leb (r .count + length s) room) e)
+    pub taken-room : portionRoom (r .count) (length s) ≤ room
+    taken-room = leb-true (portionRoom (r .count) (length s)) room (both-true (ltb (r .count) lineLimit) (leb (portionRoom (r .count) (length s)) room) e .1)
 
     pub taken-answer : feedAnswer r s room ≡ fedBy r s
     unfolding fedIf
@@ -33,7 +36,7 @@ module _ (r : Replay) (s : List ℕ) (room : ℕ) where
     unfolding writesIf
     taken-writes = ap (λ (t : Bool). writesIf t r s) e
 
-  module _ (e : takes r (length s) room ≡ false) where
+  module _ (e : takes (r .count) (length s) room ≡ false) where
     pub untaken-answer : feedAnswer r s room ≡ record { taken = false; state = r; written = 0 }
     unfolding fedIf
     untaken-answer = ap (λ (t : Bool). fedIf t r s) e
@@ -43,11 +46,11 @@ module _ (r : Replay) (s : List ℕ) (room : ℕ) where
     untaken-writes = ap (λ (t : Bool). writesIf t r s) e
 
   -- a replay that began fresh takes every portion, where the output is as large as the portion and what is held
-  pub sound-takes : Sound r → r .count + length s ≤ room → takes r (length s) room ≡ true
-  sound-takes h k = rw (lt-ltb (r .count) 46 (omega (arith, h .short)), le-leb (r .count + length s) room k)
+  pub sound-takes : Sound r → portionRoom (r .count) (length s) ≤ room → takes (r .count) (length s) room ≡ true
+  sound-takes h k = rw (lt-ltb (r .count) lineLimit (omega (arith, h .short)), le-leb (portionRoom (r .count) (length s)) room k)
 
   -- and stays sound
-  pub sound-answer : (x : Fed) → Sound r → r .count + length s ≤ room → x ≡ feedAnswer r s room → (x .taken ≡ true) × (Sound (x .state))
+  pub sound-answer : (x : Fed) → Sound r → portionRoom (r .count) (length s) ≤ room → x ≡ feedAnswer r s room → (x .taken ≡ true) × (Sound (x .state))
   sound-answer x h k e =
       let q : x ≡ fedBy r s = e ∙ taken-answer (sound-takes h k) in
       rw q (refl, fed-sound r s h)
@@ -55,18 +58,18 @@ module _ (r : Replay) (s : List ℕ) (room : ℕ) where
 -- ---- ending
 
 module _ (r : Replay) (room : ℕ) where
-  pub finish-cramped : room < 26 → finishWrites r room ≡ []
+  pub finish-cramped : room < endRoom → finishWrites r room ≡ []
   unfolding finishIf
-  finish-cramped h = ap (λ (t : Bool). finishIf t r) (lt-leb 26 room h)
+  finish-cramped h = ap (λ (t : Bool). finishIf t r) (lt-leb endRoom room h)
 
-  module _ (h : 26 ≤ room) where
+  module _ (h : endRoom ≤ room) where
     pub finish-closed : r .count ≡ 0 → finishWrites r room ≡ endOf (r .progress)
     unfolding finishIf endIf
-    finish-closed e = ap (λ (t : Bool). finishIf t r) (le-leb 26 room h) ∙ ap (λ (t : Bool). endIf t r) (eq-eqb (r .count) 0 e)
+    finish-closed e = ap (λ (t : Bool). finishIf t r) (le-leb endRoom room h) ∙ ap (λ (t : Bool). endIf t r) (eq-eqb (r .count) 0 e)
 
     pub finish-open : (r .count ≡ 0 → ⊥) → finishWrites r room ≡ endOf (refuse (r .progress))
     unfolding finishIf endIf
-    finish-open e = ap (λ (t : Bool). finishIf t r) (le-leb 26 room h) ∙ ap (λ (t : Bool). endIf t r) (ne-eqb (r .count) 0 e)
+    finish-open e = ap (λ (t : Bool). finishIf t r) (le-leb endRoom room h) ∙ ap (λ (t : Bool). endIf t r) (ne-eqb (r .count) 0 e)
 
 -- ---- all calls together
 
@@ -75,20 +78,20 @@ unfoldable pub handedOut : Replay → List (List ℕ) → ℕ → List ℕ
 handedOut r [] room = finishWrites r room
 handedOut r (p ∷ ps) room = feedWrites r p room ++ handedOut (feedAnswer r p room .state) ps room
 
--- the output has room for each portion and the 45 bytes that a state may hold
+-- the output has room for each portion and what a state may hold
 unfoldable pub roomFor : List (List ℕ) → ℕ → Bool
 roomFor [] room = true
-roomFor (p ∷ ps) room = leb (length p + 45) room && roomFor ps room
+roomFor (p ∷ ps) room = leb (portionRoom longestLine (length p)) room && roomFor ps room
 
-handed-fed : (r : Replay) (ps : List (List ℕ)) (room : ℕ) → Sound r → 26 ≤ room → roomFor ps room ≡ true → handedOut r ps room ≡ feedAll r ps
+handed-fed : (r : Replay) (ps : List (List ℕ)) (room : ℕ) → Sound r → endRoom ≤ room → roomFor ps room ≡ true → handedOut r ps room ≡ feedAll r ps
 unfolding handedOut roomFor feedAll finishIf
-handed-fed r [] room h k e = rw (le-leb 26 room k)
+handed-fed r [] room h k e = rw (le-leb endRoom room k)
 handed-fed r (p ∷ ps) room h k e =
-    let m = leb-true (length p + 45) room (and-left (leb (length p + 45) room) (roomFor ps room) e) in
-    let t : takes r (length p) room ≡ true = sound-takes r p room h (omega (arith, h .short, m)) in
+    let m = leb-true (portionRoom longestLine (length p)) room (both-true (leb (portionRoom longestLine (length p)) room) (roomFor ps room) e .0) in
+    let t : takes (r .count) (length p) room ≡ true = sound-takes r p room h (omega (arith, h .short, m)) in
     let q : feedAnswer r p room .state ≡ fed r p = ap (λ (x : Fed). x .state) (taken-answer r p room t) in
-    rw (taken-writes r p room t, q) (ap (λ (w : List ℕ). writes r p ++ w) (handed-fed (fed r p) ps room (fed-sound r p h) k (and-right (leb (length p + 45) room) (roomFor ps room) e)))
+    rw (taken-writes r p room t, q) (ap (λ (w : List ℕ). writes r p ++ w) (handed-fed (fed r p) ps room (fed-sound r p h) k (both-true (leb (portionRoom longestLine (length p)) room) (roomFor ps room) e .1)))
 
 -- WHAT A TESTER RELIES ON: whatever the portions, what the calls hand out is the replay of the whole input
-pub replay-of-calls : (ps : List (List ℕ)) (room : ℕ) → 26 ≤ room → roomFor ps room ≡ true → handedOut freshReplay ps room ≡ replayOf (joined ps)
+pub replay-of-calls : (ps : List (List ℕ)) (room : ℕ) → endRoom ≤ room → roomFor ps room ≡ true → handedOut freshReplay ps room ≡ replayOf (joined ps)
 replay-of-calls ps room k e = handed-fed freshReplay ps room fresh-sound k e ∙ replay-of-portions ps

@@ -1,57 +1,53 @@
 -- How far the code has come in a portion, turn by turn.
 -- Assumes nothing.
 use mathlib.Core.Path.{_≡_, refl, sym, ap, _∙_}
-use mathlib.Core.Bool.{true, false, _&&_, and-false}
+use mathlib.Core.Bool.{true}
 use mathlib.Core.List.{List, [], _∷_, _++_, append-assoc, append-nil}
-use Prim.Native.Nat.{ℕ, suc, _+_, _-_, _≤_, _<_}
+use Prim.Native.Nat.{ℕ, _+_, _≤_, _<_}
 use native.Mathlib.Numerals.{add-one}
 use native.Mathlib.Omega.{arith}
-use lib.Dec.{eqb}
-use lib.ListN.{length, getD, take, set, length-append}
-use lib.Seq.{sets, take-suc, take-all, append-snoc}
-use borrow.Author.Tests.{eq-eqb, ne-eqb}
+use lib.ListN.{length, getD, take, set, length-append, length-set}
+use lib.Seq.{sets, take-suc, take-all}
 use Rattle.files.specs.declared.progress.Progress.{Progress}
 use Rattle.files.specs.declared.progress.Noted.{Noted}
 use Rattle.files.specs.declared.replay.Replay.{Replay}
-use Rattle.files.specs.Line.{isLf, endsCrLf}
-use Rattle.files.specs.Replay.{notedOf, afterLine, wroteLine}
-use Rattle.files.specs.Portions.{nextLine, closes, refuse, stepIf, wroteIf, stepOf, wroteOf, fed, writes, fedBy}
+use Rattle.text.specs.declared.lines.Closer.the-variants.{CrLf}
+use Rattle.text.specs.declared.lines.Cut.the-variants.{Held, Closed, TooLong}
+use Rattle.files.specs.Progress.{afterLine, wroteLine, refuse}
+use Rattle.files.specs.device.Calls.{notedOf}
+use Rattle.files.specs.Replay.{lineLimit, nextLine, nextCut, fedByteBy, wroteByteBy, fedByte, wroteByte, fed, writes, fedBy}
 use Rattle.text.proofs.StoreLaws.{sets-append}
-use Rattle.files.proofs.ShapeLaws.{ends-two}
+use Rattle.text.proofs.CutLaws.{next-length, held-not-full}
 use Rattle.files.proofs.PortionLaws.{next-held}
 
--- ---- whether a byte closes the line of the n bytes held
+pub same-room : (held held' : List ℕ) (n b : ℕ) → held' ≡ set held n b → length held ≡ lineLimit → length held' ≡ lineLimit
+same-room held held' n b e h = rw (e, length-set) h
 
-pub closes-none : (b : ℕ) (s : List ℕ) → endsCrLf (take 0 s ++ (b ∷ [])) ≡ false
-unfolding endsCrLf isLf
-closes-none b s = rw (and-false (eqb b 13))
-
-closes-some : (b k : ℕ) (s : List ℕ) → k < length s → endsCrLf (take (suc k) s ++ (b ∷ [])) ≡ eqb (getD s k 0) 13 && eqb b 10
-closes-some b k s h = rw (take-suc s k 0 h, append-snoc (take k s) (getD s k 0) (b ∷ [])) (ends-two (take k s) (getD s k 0) b)
-
-pub closes-at : (b n : ℕ) (s : List ℕ) → (n ≡ 0 → ⊥) → n ≤ length s → endsCrLf (take n s ++ (b ∷ [])) ≡ eqb (getD s (n - 1) 0) 13 && eqb b 10
-closes-at b n s h l =
-    let e : n ≡ suc (n - 1) = omega arith in
-    ap (λ (m : ℕ). endsCrLf (take m s ++ (b ∷ []))) e ∙ closes-some b (n - 1) s (omega arith)
+-- a line that is still held is not too long
+pub held-short : (s : Replay) (b : ℕ) → s .count + 1 ≤ lineLimit → length (s .held) ≡ lineLimit → Held ≡ nextCut s b → s .count + 1 < lineLimit
+held-short s b short room e =
+    let n = next-length CrLf lineLimit (s .count) b (s .held) (omega arith) in
+    let k = held-not-full CrLf lineLimit (nextLine s b) (sym e) in
+    omega (arith, k, n)
 
 -- ---- a portion with one more at the end
 
 fed-append : (r : Replay) (s t : List ℕ) → fed r (s ++ t) ≡ fed (fed r s) t
 unfolding fed
 fed-append r [] t = refl
-fed-append r (b ∷ s) t = fed-append (stepOf r b) s t
+fed-append r (b ∷ s) t = fed-append (fedByte r b) s t
 
 writes-append : (r : Replay) (s t : List ℕ) → writes r (s ++ t) ≡ writes r s ++ writes (fed r s) t
 unfolding fed writes
 writes-append r [] t = refl
-writes-append r (b ∷ s) t = rw (writes-append (stepOf r b) s t) (sym (append-assoc (wroteOf r b) _ _))
+writes-append r (b ∷ s) t = rw (writes-append (fedByte r b) s t) (sym (append-assoc (wroteByte r b) _ _))
 
 module _ (r : Replay) (p : List ℕ) (i : ℕ) (h : i < length p) where
-  fed-more : fed r (take (i + 1) p) ≡ stepOf (fed r (take i p)) (getD p i 0)
+  fed-more : fed r (take (i + 1) p) ≡ fedByte (fed r (take i p)) (getD p i 0)
   unfolding fed
   fed-more = rw (add-one, take-suc p i 0 h, fed-append r (take i p) (getD p i 0 ∷ []))
 
-  writes-more : writes r (take (i + 1) p) ≡ writes r (take i p) ++ wroteOf (fed r (take i p)) (getD p i 0)
+  writes-more : writes r (take (i + 1) p) ≡ writes r (take i p) ++ wroteByte (fed r (take i p)) (getD p i 0)
   unfolding writes
   writes-more = rw (add-one, take-suc p i 0 h, writes-append r (take i p) (getD p i 0 ∷ []), append-nil)
 
@@ -70,51 +66,53 @@ module _ (r : Replay) (p before : List ℕ) (i : ℕ) (s : Replay) (at : ℕ) (o
   abbrev byte : ℕ
   byte = getD p i 0
 
-  reached-byte : (s' : Replay) (at' : ℕ) (out' : List ℕ) → s' ≡ stepOf s byte → at' ≡ at + length (wroteOf s byte) → out' ≡ sets out at (wroteOf s byte)
+  reached-byte : (s' : Replay) (at' : ℕ) (out' : List ℕ) → s' ≡ fedByte s byte → at' ≡ at + length (wroteByte s byte) → out' ≡ sets out at (wroteByte s byte)
       → Reached r p before (i + 1) s' at' out'
   reached-byte s' at' out' e f g =
       let m = writes-more r p i k in
       let y : at ≡ 0 + length (writes r (take i p)) = omega (arith, h .place) in
-      let x : wroteOf s byte ≡ wroteOf (fed r (take i p)) byte = ap (λ (q : Replay). wroteOf q byte) (h .state) in record {
-        state = e ∙ ap (λ (q : Replay). stepOf q byte) (h .state) ∙ sym (fed-more r p i k);
-        place = f ∙ rw (m, length-append, x, h .place);
+      let x : wroteByte s byte ≡ wroteByte (fed r (take i p)) byte = ap (λ (q : Replay). wroteByte q byte) (h .state) in record {
+        state = e ∙ ap (λ (q : Replay). fedByte q byte) (h .state) ∙ sym (fed-more r p i k);
+        place =
+            f ∙ ap (λ (n : ℕ). n + length (wroteByte s byte)) (h .place)
+            ∙ ap (λ (w : List ℕ). length (writes r (take i p)) + length w) x
+            ∙ sym (ap length m ∙ length-append (writes r (take i p)) (wroteByte (fed r (take i p)) byte));
         bytes =
-            g ∙ ap (λ (l : List ℕ). sets l at (wroteOf s byte)) (h .bytes) ∙ ap (sets (sets before 0 (writes r (take i p))) at) x
-            ∙ ap (λ (n : ℕ). sets (sets before 0 (writes r (take i p))) n (wroteOf (fed r (take i p)) byte)) y
-            ∙ sym (sets-append before 0 (writes r (take i p)) (wroteOf (fed r (take i p)) byte))
+            g ∙ ap (λ (l : List ℕ). sets l at (wroteByte s byte)) (h .bytes) ∙ ap (sets (sets before 0 (writes r (take i p))) at) x
+            ∙ ap (λ (n : ℕ). sets (sets before 0 (writes r (take i p))) n (wroteByte (fed r (take i p)) byte)) y
+            ∙ sym (sets-append before 0 (writes r (take i p)) (wroteByte (fed r (take i p)) byte))
             ∙ ap (sets before 0) (sym m);
       }
 
-  module _ (short : s .count + 1 ≤ 46) (room : length (s .held) ≡ 46) where
-    abbrev line : List ℕ
-    line = take (s .count + 1) (set (s .held) (s .count) byte)
+  -- the bytes held after it
+  module _ (held : List ℕ) (q : held ≡ set (s .held) (s .count) byte) where
+    module _ (short : s .count + 1 ≤ lineLimit) (room : length (s .held) ≡ lineLimit) where
+      abbrev line : List ℕ
+      line = take (s .count + 1) held
 
-    same-line : line ≡ nextLine s byte
-    same-line = next-held s byte short room
+      same-line : line ≡ nextLine s byte
+      same-line = ap (take (s .count + 1)) q ∙ next-held s byte short room
 
-    pub reached-closed : (t : Noted) (out' : List ℕ) → closes s byte ≡ true → t ≡ notedOf (afterLine (s .progress) line) (wroteLine (s .progress) line) at
-        → out' ≡ sets out at (wroteLine (s .progress) line)
-        → Reached r p before (i + 1) (record { progress = t .progress; held = set (s .held) (s .count) byte; count = 0 }) (t .written) out'
-    unfolding stepIf wroteIf
-    reached-closed t out' e f g =
-        reached-byte (record { progress = t .progress; held = set (s .held) (s .count) byte; count = 0 }) (t .written) out'
-        (rw (e, f, same-line)) (rw (e, f, same-line)) (rw (e, ← same-line) g)
+      pub reached-closed : (t : Noted) (out' : List ℕ) → Closed ≡ nextCut s byte → t ≡ notedOf (afterLine (s .progress) line) (wroteLine (s .progress) line) at
+          → out' ≡ sets out at (wroteLine (s .progress) line)
+          → Reached r p before (i + 1) (record { progress = t .progress; held = held; count = 0 }) (t .written) out'
+      unfolding fedByteBy wroteByteBy
+      reached-closed t out' e f g =
+          reached-byte (record { progress = t .progress; held = held; count = 0 }) (t .written) out'
+          (rw (← e, f, same-line, q)) (rw (← e, f, same-line)) (rw (← e, ← same-line) g)
 
-  pub reached-filled : (q : Progress) → closes s byte ≡ false → s .count + 1 ≡ 46 → q ≡ refuse (s .progress)
-      → Reached r p before (i + 1) (record { progress = q; held = set (s .held) (s .count) byte; count = 0 }) at out
-  unfolding stepIf wroteIf
-  reached-filled q e f g =
-      let z : at ≡ at + 0 = omega arith in
-      reached-byte (record { progress = q; held = set (s .held) (s .count) byte; count = 0 }) at out
-      (rw (e, eq-eqb (s .count + 1) 46 f, g)) (rw e z) (rw e)
+    pub reached-filled : (x : Progress) → TooLong ≡ nextCut s byte → x ≡ refuse (s .progress)
+        → Reached r p before (i + 1) (record { progress = x; held = held; count = 0 }) at out
+    unfolding fedByteBy wroteByteBy
+    reached-filled x e g =
+        let z : at ≡ at + 0 = omega arith in
+        reached-byte (record { progress = x; held = held; count = 0 }) at out (rw (← e, g, q)) (rw (← e) z) (rw (← e))
 
-  pub reached-held : closes s byte ≡ false → (s .count + 1 ≡ 46 → ⊥)
-      → Reached r p before (i + 1) (record { progress = s .progress; held = set (s .held) (s .count) byte; count = s .count + 1 }) at out
-  unfolding stepIf wroteIf
-  reached-held e f =
-      let z : at ≡ at + 0 = omega arith in
-      reached-byte (record { progress = s .progress; held = set (s .held) (s .count) byte; count = s .count + 1 }) at out
-      (rw (e, ne-eqb (s .count + 1) 46 f)) (rw e z) (rw e)
+    pub reached-held : Held ≡ nextCut s byte → Reached r p before (i + 1) (record { progress = s .progress; held = held; count = s .count + 1 }) at out
+    unfolding fedByteBy wroteByteBy
+    reached-held e =
+        let z : at ≡ at + 0 = omega arith in
+        reached-byte (record { progress = s .progress; held = held; count = s .count + 1 }) at out (rw (← e, q)) (rw (← e) z) (rw (← e))
 
 pub reached-all : (r : Replay) (p before : List ℕ) (i : ℕ) (s : Replay) (at : ℕ) (out : List ℕ) → length p ≤ i → Reached r p before i s at out
     → (record { taken = true; state = s; written = at } ≡ fedBy r p) × (out ≡ sets before 0 (writes r p))

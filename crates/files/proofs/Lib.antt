@@ -1,9 +1,4 @@
-pub mod Cases
-pub mod DigitLaws
-pub mod DecimalLaws
-pub mod ScanLaws
-pub mod ShapeLaws
-pub mod LineLaws
+pub mod AnswerNumbers
 pub mod RowLaws
 pub mod SettingsLineLaws
 pub mod OutputLaws
@@ -12,7 +7,5 @@ pub mod RefusedLaws
 pub mod PortionLaws
 pub mod FeedLaws
 pub mod AnswerLaws
-pub mod InputLaws
 pub mod ReplayLaws
 pub mod NeverRefused
-pub mod AnswerNumbers

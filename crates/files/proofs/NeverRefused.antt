@@ -5,7 +5,7 @@ use native.Mathlib.Omega.{arith}
 use mathlib.Core.Bool.{Bool, true, false, cond}
 use mathlib.Core.List.{List, [], _∷_}
 use mathlib.Core.Path.{_≡_, refl, ap}
-use borrow.Author.Tests.{leb-true, eqb-true}
+use borrow.Author.Tests.{leb-true, eqb-true, eq-eqb}
 use lib.Dec.{leb, eqb}
 use Rattle.phase.specs.declared.settings.Settings.{Settings}
 use Rattle.phase.specs.Settings.{settingsRefusal}
@@ -21,8 +21,8 @@ use Rattle.files.specs.declared.row.RowRead.{RowRead}
 use Rattle.files.specs.declared.row.RowRead.the-variants as row
 use Rattle.files.specs.declared.settings_line.SettingsRead.{SettingsRead}
 use Rattle.files.specs.declared.settings_line.SettingsRead.the-variants as settings-line
-use Rattle.files.specs.Line.{rightShape, numbersOf}
-use Rattle.files.specs.Replay.{freshProgress, opened, ticked, stepped, afterBy, afterLine}
+use Rattle.text.specs.Line.{rightShape, numbersOf}
+use Rattle.files.specs.Progress.{freshProgress, opened, ticked, rowDone, afterTick, stepped, afterBy, afterLine}
 use Rattle.files.specs.Row.{rowWidths, rowOf, rowRefusal, rowAnswer}
 use Rattle.files.specs.SettingsLine.{settingsWidths, settingsIn, settingsLineRefusal, settingsLineAnswer}
 
@@ -71,8 +71,17 @@ opened-right p (settings-line.Refused n) e h = tt
 tick-right : (p : Progress) (x : Row) → Right Running p → x .block ≤ 1 → relayTickRefusal (p .settings) (p .relay) (x .block) ≡ 0
 tick-right p x right h = relay-tick-allowed (p .settings) (p .relay) (x .block) (right .0) (right .1) h
 
+tick-is-accepted : (p : Progress) (x : Row) → Right Running p → x .block ≤ 1 → ticked p x .refusal ≡ 0
+tick-is-accepted p x right h =
+    ap (λ (t : RelayTicked). t .refusal) (relay-tick-accepted (p .settings) (p .relay) (x .l1) (x .l2) (x .l3) (x .block) (tick-right p x right h))
+
+-- an accepted row is done
+done-right : (p : Progress) (x : Row) → Right Running p → x .block ≤ 1 → afterTick p (ticked p x) ≡ rowDone p (ticked p x)
+done-right p x right h = rw (eq-eqb (ticked p x .refusal) 0 (tick-is-accepted p x right h))
+
 stepped-right : (p : Progress) (answer : RowRead) → Right Running p → ((x : Row) → answer ≡ row.Accepted x → x .block ≤ 1) → Right (stepped p answer .stage) (stepped p answer)
 stepped-right p (row.Accepted x) right h =
+    rw (done-right p x right (h x refl))
     (right .0, relay-tick-keeps-valid (p .settings) (p .relay) (x .l1) (x .l2) (x .l3) (x .block) (tick-right p x right (h x refl)) (right .1))
 stepped-right p (row.Refused n) right h = tt
 
@@ -90,9 +99,18 @@ lines-keep : (p : Progress) (ls : List (List ℕ)) → Right (p .stage) p → Ri
 lines-keep p [] right = right
 lines-keep p (l ∷ ls) right = lines-keep (afterLine p l) ls (line-keeps (p .stage) p l refl right)
 
--- after any lines from the fresh start, the tick of an accepted row is accepted
-pub no-tick-refused : (ls : List (List ℕ)) (l : List ℕ) (x : Row) → let p : Progress = afterLines freshProgress ls in p .stage ≡ Running → rowAnswer l (p .done) ≡ row.Accepted x → ticked p x .refusal ≡ 0
-no-tick-refused ls l x running e =
-    let p = afterLines freshProgress ls in
-    let right : Right Running p = rw running at (lines-keep freshProgress ls refl) in
-    ap (λ (t : RelayTicked). t .refusal) (relay-tick-accepted (p .settings) (p .relay) (x .l1) (x .l2) (x .l3) (x .block) (tick-right p x right (accepted-block l (p .done) x e)))
+-- after any lines from the fresh start, the tick of an accepted row is accepted, and the row is done
+module _ (ls : List (List ℕ)) (l : List ℕ) (x : Row) where
+  abbrev reached : Progress
+  reached = afterLines freshProgress ls
+
+  module _ (running : reached .stage ≡ Running) (e : rowAnswer l (reached .done) ≡ row.Accepted x) where
+    right-reached : Right Running reached
+    right-reached = rw running at (lines-keep freshProgress ls refl)
+
+    pub no-tick-refused : ticked reached x .refusal ≡ 0
+    no-tick-refused = tick-is-accepted reached x right-reached (accepted-block l (reached .done) x e)
+
+    pub accepted-row-is-done : afterLine reached l ≡ rowDone reached (ticked reached x)
+    unfolding afterBy
+    accepted-row-is-done = rw (running, e) (done-right reached x right-reached (accepted-block l (reached .done) x e))

@@ -7,10 +7,11 @@ use native.Mathlib.Numerals.{add-one}
 use native.Mathlib.Omega.{arith}
 use lib.ListN.{length, set, length-append}
 use lib.Seq.{sets}
-use Rattle.files.specs.Number.{decimal}
-use Rattle.files.specs.Output.{pairLine, changeLine, endLine}
+use Rattle.text.specs.Number.{decimal}
+use Rattle.files.specs.Output.{pairLine, changeLine, changeRoom, endLine, endRoom}
+use Rattle.files.specs.Row.{lastRow}
 use Rattle.text.proofs.StoreLaws.{sets-append}
-use Rattle.files.proofs.DecimalLaws.{decimal-length, decimal-short}
+use Rattle.text.proofs.DecimalLaws.{decimal-length, decimal-short}
 
 pub pair-length : (a b : ℕ) → length (pairLine a b) ≡ length (decimal a) + 1 + length (decimal b) + 1
 pair-length a b = rw (length-append, length-append) (omega arith)
@@ -26,10 +27,10 @@ pair-sets s at a b =
     rw (z, y, ← sets-append s at (decimal a) (44 ∷ decimal b)) (sym (sets-append s at (decimal a ++ (44 ∷ decimal b)) (10 ∷ [])))
 
 -- a change line has at most 6 + 1 + 3 + 1 bytes
-pub change-short : (row outputs : ℕ) → row ≤ 999999 → outputs < 256 → length (changeLine row outputs) ≤ 11
+pub change-short : (row outputs : ℕ) → row ≤ lastRow → outputs < 256 → length (changeLine row outputs) ≤ changeRoom
 change-short row outputs h k =
     omega (arith, pair-length row outputs, decimal-short 5 row (omega arith) (omega arith), decimal-short 2 outputs (omega arith) (omega arith))
 
 -- an end line at most 4 + 10 + 1 + 10 + 1
-pub end-short : (done refusal : ℕ) → length (endLine done refusal) ≤ 26
+pub end-short : (done refusal : ℕ) → length (endLine done refusal) ≤ endRoom
 end-short done refusal = omega (arith, pair-length done refusal, decimal-length 9 done, decimal-length 9 refusal)

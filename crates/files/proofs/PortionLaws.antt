@@ -14,74 +14,63 @@ use Rattle.files.specs.declared.progress.Stage.{Stage}
 use Rattle.files.specs.declared.progress.Stage.the-variants.{Stopped}
 use Rattle.files.specs.declared.progress.Progress.{Progress}
 use Rattle.files.specs.declared.replay.Replay.{Replay}
-use Rattle.files.specs.Line.{endsCrLf}
-use Rattle.files.specs.Lines.{lastLine, linesFrom}
-use Rattle.files.specs.Replay.{endOf, byLines, replayOf}
-use Rattle.files.specs.Portions.{heldLine, freshReplay, refuseBy, nextLine, closes, fills, stepIf, wroteIf, stepOf, wroteOf, fed, writes, endIf, endsWith, Sound}
+use Rattle.text.specs.Line.{endsCrLf}
+use Rattle.text.specs.declared.lines.Closer.the-variants.{CrLf}
+use Rattle.text.specs.declared.lines.Cut.{Cut}
+use Rattle.text.specs.Lines.{linesFrom, joined}
+use Rattle.files.specs.Progress.{endOf, refuseBy}
+use Rattle.files.specs.Replay.{byLines, replayOf, lineLimit, heldLine, freshReplay, nextLine, fedByteBy, wroteByteBy, fedByte, wroteByte, fed, writes, endIf, endsWith}
+use Rattle.files.specs.device.Calls.{Sound}
+use Rattle.text.proofs.ShapeLaws.{ends-nothing}
+use Rattle.text.proofs.CutLaws.{by-cut, next-length, lines-cons, lines-nil, last-nothing, joined-none, joined-more}
 use Rattle.files.proofs.RefusedLaws.{by-cons, by-nil, stopped-ends, refused-ends, open-ends, long-ends}
 
 -- ---- one byte, in a state that holds less than a line too long
 
-module _ (r : Replay) (b : ℕ) (short : r .count + 1 ≤ 46) (room : length (r .held) ≡ 46) where
-  pub next-length : length (nextLine r b) ≡ r .count + 1
-  next-length = rw (length-append, length-take) (omega arith)
-
+module _ (r : Replay) (b : ℕ) (short : r .count + 1 ≤ lineLimit) (room : length (r .held) ≡ lineLimit) where
   pub next-held : take (r .count + 1) (set (r .held) (r .count) b) ≡ nextLine r b
   next-held = rw add-one (take-suc-set (r .held) (r .count) b (omega arith))
 
 -- ---- it stays sound
 
-nothing-ends : endsCrLf [] ≡ false
-unfolding endsCrLf
-nothing-ends = refl
-
 module _ (r : Replay) (b : ℕ) (h : Sound r) where
-  held-room : length (set (r .held) (r .count) b) ≡ 46
+  longer : length (nextLine r b) ≡ r .count + 1
+  longer = next-length CrLf lineLimit (r .count) b (r .held) (omega (arith, h .short, h .room))
+
+  held-room : length (set (r .held) (r .count) b) ≡ lineLimit
   held-room = simp length-set (h .room)
 
-  sound-if : (t u : Bool) → closes r b ≡ t → fills r ≡ u → Sound (stepIf t u r b)
-  unfolding stepIf
-  sound-if true u e f = record { short = omega arith; room = held-room; unclosed = nothing-ends }
-  sound-if false true e f = record { short = omega arith; room = held-room; unclosed = nothing-ends }
-  sound-if false false e f = record {
-    short = omega (arith, h .short, eqb-false (r .count + 1) 46 f);
-    room = held-room;
-    unclosed = rw (next-held r b (h .short) (h .room)) e;
-  }
-
-  step-sound : Sound (stepOf r b)
-  step-sound = sound-if (closes r b) (fills r) refl refl
+  byte-sound : Sound (fedByte r b)
+  unfolding fedByteBy
+  byte-sound =
+      by-cut CrLf lineLimit (nextLine r b) (λ (k : Cut). Sound (fedByteBy k r b))
+      (λ e. record { short = omega arith; room = held-room; unclosed = ends-nothing })
+      (λ e f. record { short = omega arith; room = held-room; unclosed = ends-nothing })
+      (λ e f. record { short = omega (arith, h .short, f, longer); room = held-room; unclosed = rw (next-held r b (h .short) (h .room)) e })
 
 pub fed-sound : (r : Replay) (s : List ℕ) → Sound r → Sound (fed r s)
 unfolding fed
 fed-sound r [] h = h
-fed-sound r (b ∷ s) h = fed-sound (stepOf r b) s (step-sound r b h)
+fed-sound r (b ∷ s) h = fed-sound (fedByte r b) s (byte-sound r b h)
 
 pub fresh-sound : Sound freshReplay
-fresh-sound = record { short = omega arith; room = refl; unclosed = nothing-ends }
+fresh-sound = record { short = omega arith; room = refl; unclosed = ends-nothing }
 
 -- ---- what is still to be written: the replay, line by line, of the line held and the rest of the input
 
 unfoldable left : Replay → List ℕ → List ℕ
-left r s = byLines (r .progress) (linesFrom (heldLine r) s)
-
-lines-cons : (l s : List ℕ) (b : ℕ) → linesFrom l (b ∷ s) ≡ cond (endsCrLf (l ++ (b ∷ []))) ((l ++ (b ∷ [])) ∷ linesFrom [] s) (linesFrom (l ++ (b ∷ [])) s)
-unfolding linesFrom
-lines-cons l s b = refl
+left r s = byLines (r .progress) (linesFrom CrLf (heldLine r) s)
 
 module _ (r : Replay) (b : ℕ) (s : List ℕ) (h : Sound r) where
-  left-if : (t u : Bool) → fills r ≡ u
-      → byLines (r .progress) (cond t (nextLine r b ∷ linesFrom [] s) (linesFrom (nextLine r b) s)) ≡ wroteIf t r b ++ left (stepIf t u r b) s
-  unfolding left stepIf wroteIf
-  left-if true u f = by-cons (r .progress) (nextLine r b) (linesFrom [] s)
-  left-if false true f =
-      long-ends (r .progress) (nextLine r b) s (omega (arith, next-length r b (h .short) (h .room), eqb-true (r .count + 1) 46 f))
-      ∙ sym (refused-ends (r .progress) (linesFrom [] s))
-  left-if false false f = rw (next-held r b (h .short) (h .room))
-
-  left-byte : left r (b ∷ s) ≡ wroteOf r b ++ left (stepOf r b) s
-  unfolding left
-  left-byte = ap (byLines (r .progress)) (lines-cons (heldLine r) s b) ∙ left-if (closes r b) (fills r) refl
+  left-byte : left r (b ∷ s) ≡ wroteByte r b ++ left (fedByte r b) s
+  unfolding left fedByteBy wroteByteBy
+  left-byte =
+      rw (lines-cons CrLf (heldLine r) s b)
+      (by-cut CrLf lineLimit (nextLine r b)
+      (λ (k : Cut). byLines (r .progress) (cond (endsCrLf (nextLine r b)) (nextLine r b ∷ linesFrom CrLf [] s) (linesFrom CrLf (nextLine r b) s)) ≡ wroteByteBy k r b ++ left (fedByteBy k r b) s)
+      (λ e. rw e (by-cons (r .progress) (nextLine r b) (linesFrom CrLf [] s)))
+      (λ e f. rw e (long-ends (r .progress) (nextLine r b) s (omega arith) ∙ sym (refused-ends (r .progress) (linesFrom CrLf [] s))))
+      (λ e f. rw (e, next-held r b (h .short) (h .room))))
 
 -- a portion
 left-fed : (r : Replay) (s t : List ℕ) → Sound r → left r (s ++ t) ≡ writes r s ++ left (fed r s) t
@@ -89,25 +78,17 @@ unfolding fed writes
 left-fed r [] t h = refl
 left-fed r (b ∷ s) t h =
     left-byte r b (s ++ t) h
-    ∙ ap (λ (l : List ℕ). wroteOf r b ++ l) (left-fed (stepOf r b) s t (step-sound r b h))
-    ∙ sym (append-assoc (wroteOf r b) (writes (stepOf r b) s) (left (fed (stepOf r b) s) t))
+    ∙ ap (λ (l : List ℕ). wroteByte r b ++ l) (left-fed (fedByte r b) s t (byte-sound r b h))
+    ∙ sym (append-assoc (wroteByte r b) (writes (fedByte r b) s) (left (fed (fedByte r b) s) t))
 
 -- the end of the input
 held-nothing : (r : Replay) → r .count ≡ 0 → heldLine r ≡ []
 held-nothing r e = rw e
 
-lines-nil : (l : List ℕ) → linesFrom l [] ≡ lastLine l
-unfolding linesFrom
-lines-nil l = refl
-
-last-nothing : lastLine [] ≡ []
-unfolding lastLine
-last-nothing = refl
-
 module _ (r : Replay) (h : Sound r) where
   end-if : (t : Bool) → eqb (r .count) 0 ≡ t → left r [] ≡ endIf t r
   unfolding left endIf
-  end-if true e = rw (held-nothing r (eqb-true (r .count) 0 e), lines-nil [], last-nothing) (by-nil (r .progress))
+  end-if true e = rw (held-nothing r (eqb-true (r .count) 0 e), lines-nil CrLf [], last-nothing) (by-nil (r .progress))
   end-if false e =
       let k : 0 < length (heldLine r) = rw length-take (omega (arith, h .short, h .room, eqb-false (r .count) 0 e)) in
       open-ends (r .progress) (heldLine r) k (h .unclosed)
@@ -121,15 +102,10 @@ unfoldable pub feedAll : Replay → List (List ℕ) → List ℕ
 feedAll r [] = endsWith r
 feedAll r (p ∷ ps) = writes r p ++ feedAll (fed r p) ps
 
--- the input that they are
-unfoldable pub joined : List (List ℕ) → List ℕ
-joined [] = []
-joined (p ∷ ps) = p ++ joined ps
-
 portions-left : (r : Replay) (ps : List (List ℕ)) → Sound r → feedAll r ps ≡ left r (joined ps)
-unfolding feedAll joined
-portions-left r [] h = sym (left-end r h)
-portions-left r (p ∷ ps) h = rw (portions-left (fed r p) ps (fed-sound r p h)) (sym (left-fed r p (joined ps) h))
+unfolding feedAll
+portions-left r [] h = rw joined-none (sym (left-end r h))
+portions-left r (p ∷ ps) h = rw (joined-more p ps, portions-left (fed r p) ps (fed-sound r p h)) (sym (left-fed r p (joined ps) h))
 
 -- WHAT IS WRITTEN DOES NOT DEPEND ON THE PORTIONS: for any cutting of the input it is the replay of the input
 pub replay-of-portions : (ps : List (List ℕ)) → feedAll freshReplay ps ≡ replayOf (joined ps)
@@ -151,4 +127,4 @@ module _ (r : Replay) (n : ℕ) (e : r .progress .stage ≡ Stopped n) where
   pub stop-early : (ps : List (List ℕ)) → Sound r → feedAll r ps ≡ endsWith r
   unfolding left
   stop-early ps h =
-      portions-left r ps h ∙ stopped-ends (r .progress) n (linesFrom (heldLine r) (joined ps)) e ∙ sym (stopped-if (eqb (r .count) 0))
+      portions-left r ps h ∙ stopped-ends (r .progress) n (linesFrom CrLf (heldLine r) (joined ps)) e ∙ sym (stopped-if (eqb (r .count) 0))

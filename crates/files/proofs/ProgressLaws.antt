@@ -1,11 +1,12 @@
 -- A line's turn of the replay: from what the code has at hand to what the definitions say.
 -- Assumes nothing.
 use mathlib.Core.Path.{_≡_, sym, ap, _∙_}
-use mathlib.Core.List.{List}
+use mathlib.Core.List.{List, []}
 use Prim.Native.Nat.{ℕ, _+_}
 use native.Mathlib.Omega.{arith}
 use lib.ListN.{length}
 use lib.Seq.{sets}
+use borrow.Author.Tests.{eq-eqb, ne-eqb}
 use Rattle.relay.specs.declared.tick.RelayTicked.{RelayTicked}
 use Rattle.files.specs.declared.row.Row.{Row}
 use Rattle.files.specs.declared.row.RowRead.{RowRead}
@@ -14,25 +15,37 @@ use Rattle.files.specs.declared.progress.Stage.{Stage}
 use Rattle.files.specs.declared.progress.Stage.the-variants.{Opening, Running, Stopped}
 use Rattle.files.specs.declared.progress.Progress.{Progress}
 use Rattle.files.specs.declared.progress.Noted.{Noted}
-use Rattle.files.specs.Row.{rowAnswer}
 use Rattle.files.specs.SettingsLine.{settingsLineAnswer}
-use Rattle.files.specs.Replay.{stopped, opened, stepped, changed, changeOf, ticked, notedOf, afterBy, wroteBy, afterLine, wroteLine}
+use Rattle.files.specs.Progress.{stopped, opened, rowDone, afterTick, wroteTick, stepped, changed, afterRow, wroteRow, changeOf, ticked, afterBy, wroteBy, afterLine, wroteLine}
+use Rattle.files.specs.device.Calls.{notedOf}
 
 -- ---- a row
 
+-- the tick of an accepted row
+module _ (p : Progress) (t : RelayTicked) where
+  module _ (e : t .refusal ≡ 0) where
+    pub tick-wrote : wroteTick p t ≡ changeOf (p .done + 1) (t .outputs) (p .outputs)
+    tick-wrote = rw (eq-eqb (t .refusal) 0 e)
+
+    pub tick-noted : (end at : ℕ) → end ≡ at + length (changeOf (p .done + 1) (t .outputs) (p .outputs)) → record { progress = rowDone p t; written = end } ≡ notedOf (afterTick p t) (wroteTick p t) at
+    tick-noted end at h = rw (eq-eqb (t .refusal) 0 e, h)
+
+  module _ (e : t .refusal ≡ 0 → ⊥) where
+    pub refused-tick-quiet : wroteTick p t ≡ []
+    refused-tick-quiet = rw (ne-eqb (t .refusal) 0 e)
+
+    pub refused-tick-noted : (s : Progress) (at : ℕ) → s ≡ stopped (t .refusal) p → record { progress = s; written = at } ≡ notedOf (afterTick p t) (wroteTick p t) at
+    refused-tick-noted s at h =
+        let z : at + 0 ≡ at = omega arith in
+        rw (ne-eqb (t .refusal) 0 e, h, z)
+
 module _ (p : Progress) (a : RowRead) (x : Row) (t : RelayTicked) (q : a ≡ Accepted x) (e : t ≡ ticked p x) where
-  pub row-change : changed p a ≡ changeOf (p .done + 1) (t .outputs) (p .outputs)
-  row-change = ap (changed p) q ∙ ap (λ (y : RelayTicked). changeOf (p .done + 1) (y .outputs) (p .outputs)) (sym e)
+  pub accepted-wrote : wroteTick p t ≡ changed p a
+  accepted-wrote = ap (wroteTick p) e ∙ sym (ap (changed p) q)
 
-  row-progress : stepped p a ≡ record { stage = Running; settings = p .settings; relay = t .state; done = p .done + 1; outputs = t .outputs }
-  row-progress =
-      ap (stepped p) q
-      ∙ ap (λ (y : RelayTicked). record { stage = Running; settings = p .settings; relay = y .state; done = p .done + 1; outputs = y .outputs }) (sym e)
-
-  pub row-noted : (end at : ℕ) → end ≡ at + length (changeOf (p .done + 1) (t .outputs) (p .outputs))
-      → record { progress = record { stage = Running; settings = p .settings; relay = t .state; done = p .done + 1; outputs = t .outputs }; written = end }
-      ≡ notedOf (stepped p a) (changed p a) at
-  row-noted end at h = rw (row-progress, row-change, h)
+  pub accepted-noted : (r : Noted) (at : ℕ) → r ≡ notedOf (afterTick p t) (wroteTick p t) at → r ≡ notedOf (stepped p a) (changed p a) at
+  accepted-noted r at h =
+      h ∙ ap (λ (y : RelayTicked). notedOf (afterTick p y) (wroteTick p y) at) e ∙ sym (ap (λ (y : RowRead). notedOf (stepped p y) (changed p y) at) q)
 
 module _ (p : Progress) (a : RowRead) (n : ℕ) (q : a ≡ Refused n) where
   pub refused-noted : (s : Progress) (at : ℕ) → s ≡ stopped n p → record { progress = s; written = at } ≡ notedOf (stepped p a) (changed p a) at
@@ -67,10 +80,10 @@ module _ (p : Progress) (l : List ℕ) (at : ℕ) where
   stopped-quiet out n e = ap (λ (g : Stage). sets out at (wroteBy g p l)) (sym e)
 
   module _ (e : p .stage ≡ Running) where
-    pub running-wrote : changed p (rowAnswer l (p .done)) ≡ wroteLine p l
+    pub running-wrote : wroteRow p l ≡ wroteLine p l
     unfolding wroteBy
     running-wrote = ap (λ (g : Stage). wroteBy g p l) (sym e)
 
-    pub running-noted : (r : Noted) → r ≡ notedOf (stepped p (rowAnswer l (p .done))) (changed p (rowAnswer l (p .done))) at → r ≡ notedOf (afterLine p l) (wroteLine p l) at
+    pub running-noted : (r : Noted) → r ≡ notedOf (afterRow p l) (wroteRow p l) at → r ≡ notedOf (afterLine p l) (wroteLine p l) at
     unfolding afterBy wroteBy
     running-noted r q = q ∙ ap (λ (g : Stage). notedOf (afterBy g p l) (wroteBy g p l) at) (sym e)

@@ -9,15 +9,16 @@ use lib.ListN.{length, length-append}
 use Rattle.files.specs.declared.progress.Stage.{Stage}
 use Rattle.files.specs.declared.progress.Stage.the-variants.{Opening, Running, Stopped}
 use Rattle.files.specs.declared.progress.Progress.{Progress}
-use Rattle.files.specs.Line.{endsCrLf, rightShape}
+use Rattle.text.specs.Line.{endsCrLf, rightShape}
 use Rattle.files.specs.Row.{rowWidths, rowRefusal, rowAnswer}
 use Rattle.files.specs.SettingsLine.{settingsWidths, settingsLineRefusal, settingsLineAnswer}
-use Rattle.files.specs.Lines.{lastLine, linesFrom}
-use Rattle.files.specs.Replay.{stopped, afterBy, wroteBy, afterLine, wroteLine, endOf, byLines}
-use Rattle.files.specs.Portions.{refuseBy, refuse}
-use Rattle.files.proofs.Cases.{by-cond, not-both, not-true}
-use Rattle.files.proofs.ScanLaws.{total}
-use Rattle.files.proofs.ShapeLaws.{right-ends, shape-most}
+use Rattle.text.specs.declared.lines.Closer.the-variants.{CrLf}
+use Rattle.text.specs.Lines.{linesFrom}
+use Rattle.files.specs.Progress.{stopped, afterBy, wroteBy, afterLine, wroteLine, endOf, refuseBy, refuse}
+use Rattle.files.specs.Replay.{byLines, lineLimit}
+use Rattle.text.proofs.Cases.{by-cond, not-both, not-true}
+use Rattle.text.proofs.ShapeLaws.{right-ends, shape-most}
+use Rattle.text.proofs.CutLaws.{lines-cons, lines-nil, last-line}
 
 -- ---- a line of neither shape
 
@@ -26,9 +27,8 @@ pub record Misshapen (l : List ℕ) : Type 0 where
   pub no-row : rightShape rowWidths l ≡ false
   pub no-settings : rightShape settingsWidths l ≡ false
 
--- one of 46 bytes or more
-pub long-misshapen : (l : List ℕ) → 46 ≤ length l → Misshapen l
-unfolding total
+-- one of more than 45 bytes
+pub long-misshapen : (l : List ℕ) → lineLimit ≤ length l → Misshapen l
 long-misshapen l h = record {
   no-row = not-true (rightShape rowWidths l) (λ e. omega (arith, shape-most rowWidths l (omega arith) e));
   no-settings = not-true (rightShape settingsWidths l) (λ e. omega (arith, shape-most settingsWidths l (omega arith) e));
@@ -93,23 +93,17 @@ misshapen-ends p l ls h =
     ∙ ap (λ (x : Progress). byLines x ls) (misshapen-after (p .stage) p l h)
     ∙ refused-ends p ls
 
-pub last-line : (l : List ℕ) → 0 < length l → lastLine l ≡ l ∷ []
-unfolding lastLine
-last-line [] h = absurd (omega arith)
-last-line (a ∷ l) h = refl
-
 -- the end of the input in a line that is not closed
-pub open-ends : (p : Progress) (l : List ℕ) → 0 < length l → endsCrLf l ≡ false → byLines p (linesFrom l []) ≡ endOf (refuse p)
-unfolding linesFrom
-open-ends p l k h = rw (last-line l k) (misshapen-ends p l [] (open-misshapen l h))
+pub open-ends : (p : Progress) (l : List ℕ) → 0 < length l → endsCrLf l ≡ false → byLines p (linesFrom CrLf l []) ≡ endOf (refuse p)
+open-ends p l k h = rw (lines-nil CrLf l, last-line l k) (misshapen-ends p l [] (open-misshapen l h))
 
--- a line of 46 bytes or more is refused wherever it ends
-pub long-ends : (p : Progress) (l s : List ℕ) → 46 ≤ length l → byLines p (linesFrom l s) ≡ endOf (refuse p)
-unfolding linesFrom
-long-ends p l [] h = rw (last-line l (omega arith)) (misshapen-ends p l [] (long-misshapen l h))
+-- a line that is too long is refused wherever it ends
+pub long-ends : (p : Progress) (l s : List ℕ) → lineLimit ≤ length l → byLines p (linesFrom CrLf l s) ≡ endOf (refuse p)
+long-ends p l [] h = rw (lines-nil CrLf l, last-line l (omega arith)) (misshapen-ends p l [] (long-misshapen l h))
 long-ends p l (a ∷ s) h =
-    let k : 46 ≤ length (l ++ (a ∷ [])) = rw length-append (omega arith) in
-    by-cond (λ (ls : List (List ℕ)). byLines p ls ≡ endOf (refuse p)) (endsCrLf (l ++ (a ∷ [])))
-    ((l ++ (a ∷ [])) ∷ linesFrom [] s) (linesFrom (l ++ (a ∷ [])) s)
-    (λ e. misshapen-ends p (l ++ (a ∷ [])) (linesFrom [] s) (long-misshapen _ k))
-    (λ e. long-ends p (l ++ (a ∷ [])) s k)
+    let k : lineLimit ≤ length (l ++ (a ∷ [])) = rw length-append (omega arith) in
+    rw (lines-cons CrLf l s a)
+    (by-cond (λ (ls : List (List ℕ)). byLines p ls ≡ endOf (refuse p)) (endsCrLf (l ++ (a ∷ [])))
+    ((l ++ (a ∷ [])) ∷ linesFrom CrLf [] s) (linesFrom CrLf (l ++ (a ∷ [])) s)
+    (λ e. misshapen-ends p (l ++ (a ∷ [])) (linesFrom CrLf [] s) (long-misshapen _ k))
+    (λ e. long-ends p (l ++ (a ∷ [])) s k))

@@ -10,20 +10,23 @@ use Rattle.phase.specs.Settings.{settingsRefusal}
 use Rattle.files.specs.declared.settings_line.SettingsRead.{SettingsRead}
 use Rattle.files.specs.declared.settings_line.SettingsRead.the-variants.{Accepted}
 use Rattle.files.specs.declared.progress.Progress.{Progress}
-use Rattle.files.specs.Line.{numbersOf, rightShape}
+use Rattle.text.specs.Line.{numbersOf, rightShape}
 use Rattle.files.specs.SettingsLine.{settingsWidths, settingsIn, settingsLineRefusal, settingsLineAnswer}
 use Rattle.files.specs.Output.{endLine}
-use Rattle.files.specs.Lines.{lastLine, linesFrom, linesOf}
-use Rattle.files.specs.Replay.{freshProgress, stopped, opened, afterBy, wroteBy, endRefusal, endOf, byLines, replayOf}
-use Rattle.files.proofs.Cases.{by-cond}
+use Rattle.text.specs.declared.lines.Closer.the-variants.{CrLf}
+use Rattle.text.specs.Lines.{linesOf}
+use Rattle.files.specs.Progress.{freshProgress, stopped, opened, afterBy, wroteBy, endRefusal, endOf}
+use Rattle.files.specs.Replay.{byLines, replayOf}
+use Rattle.text.proofs.Cases.{by-cond}
 use Rattle.files.proofs.SettingsLineLaws.{settings-refused}
-use Rattle.files.proofs.RefusedLaws.{Misshapen, open-misshapen, stopped-ends, last-line}
-use Rattle.files.proofs.InputLaws.{hasCrLf, has-ends, open-input, line-first}
+use Rattle.files.proofs.RefusedLaws.{Misshapen, open-misshapen, stopped-ends}
+use Rattle.text.proofs.CutLaws.{lines-nil, last-nothing, last-line}
+use Rattle.text.proofs.LinesLaws.{hasCrLf, has-ends, open-input, line-first}
 
 -- "an empty input (12)"
 pub replay-of-nothing : replayOf [] ≡ endLine 0 12
-unfolding replayOf linesFrom lastLine byLines endRefusal
-replay-of-nothing = refl
+unfolding replayOf byLines endRefusal
+replay-of-nothing = rw (lines-nil CrLf [], last-nothing)
 
 -- the first line is the settings line
 opening : (l : List ℕ) (ls : List (List ℕ)) → byLines freshProgress (l ∷ ls) ≡ byLines (opened freshProgress (settingsLineAnswer l)) ls
@@ -42,7 +45,7 @@ refused-opening l ls n e k =
     ∙ stopped-end n freshProgress
 
 -- "A refused settings line .. gives only `end,0,` and the number", whatever follows
-pub replay-of-refused-settings : (s l : List ℕ) (ls : List (List ℕ)) (n : ℕ) → linesOf s ≡ l ∷ ls → settingsLineRefusal l ≡ n → (n ≡ 0 → ⊥)
+pub replay-of-refused-settings : (s l : List ℕ) (ls : List (List ℕ)) (n : ℕ) → linesOf CrLf s ≡ l ∷ ls → settingsLineRefusal l ≡ n → (n ≡ 0 → ⊥)
     → replayOf s ≡ endLine 0 n
 unfolding replayOf
 replay-of-refused-settings s l ls n e h k = ap (byLines freshProgress) e ∙ refused-opening l ls n h k
@@ -66,9 +69,9 @@ accepted-shape l =
     by-cond (λ (n : ℕ). n ≡ 0 → rightShape settingsWidths l ≡ true) (rightShape settingsWidths l) (settingsRefusal (settingsIn (numbersOf l))) 12
     (λ t e. t) (λ t e. absurd (omega arith))
 
-lines-one : (l : List ℕ) → settingsLineRefusal l ≡ 0 → linesOf l ≡ l ∷ []
-unfolding linesFrom lastLine
-lines-one l e = ap linesOf (sym (append-nil l)) ∙ line-first settingsWidths l [] (accepted-shape l e)
+lines-one : (l : List ℕ) → settingsLineRefusal l ≡ 0 → linesOf CrLf l ≡ l ∷ []
+lines-one l e =
+    ap (linesOf CrLf) (sym (append-nil l)) ∙ line-first settingsWidths l [] (accepted-shape l e) ∙ rw (lines-nil CrLf [], last-nothing)
 
 end-running : (l : List ℕ) → byLines (opened freshProgress (Accepted (settingsIn (numbersOf l)))) [] ≡ endLine 0 0
 unfolding byLines endRefusal

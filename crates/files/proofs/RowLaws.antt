@@ -1,6 +1,6 @@
 -- From the line that was read to the row's answer; and what an answer tells of its row.
 -- Assumes nothing.
-use mathlib.Core.Path.{_≡_, refl, sym, _∙_}
+use mathlib.Core.Path.{_≡_, refl, sym, ap, _∙_}
 use mathlib.Core.Bool.{true, false, cond}
 use mathlib.Core.List.{List, [], _∷_}
 use Prim.Native.Nat.{ℕ, _+_, _^_, _≤_, _<_}
@@ -8,23 +8,29 @@ use native.Mathlib.Omega.{arith}
 use lib.Dec.{leb, eqb}
 use lib.ListN.{length, getD}
 use borrow.Author.Tests.{eq-eqb, ne-eqb, le-leb, lt-leb, eqb-true}
-use Rattle.files.specs.declared.line.Line.{Line}
+use Rattle.text.specs.declared.line.Line.{Line}
 use Rattle.files.specs.declared.row.Row.{Row}
 use Rattle.files.specs.declared.row.RowRead.{RowRead}
 use Rattle.files.specs.declared.row.RowRead.the-variants.{Accepted, Refused}
-use Rattle.files.specs.Number.{decimal}
-use Rattle.files.specs.Line.{narrow, rightShape, numbersOf, lineAnswer, fitsIn, valuesOf, written}
-use Rattle.files.specs.Row.{rowWidths, rowOf, rowRefusal, rowAnswer}
-use Rattle.files.proofs.Cases.{by-cond}
-use Rattle.files.proofs.DecimalLaws.{decimal-back}
-use Rattle.files.proofs.ShapeLaws.{shape-least, number-below, fits-none, fits-decimal, written-right, written-numbers}
-use Rattle.files.proofs.LineLaws.{line-shape, line-number}
+use Rattle.text.specs.Number.{decimal}
+use Rattle.text.specs.Line.{narrow, rightShape, numbersOf, lineAnswer, fitsIn, written}
+use Rattle.files.specs.Row.{lastRow, rowWidths, rowOf, rowRefusal, rowAnswer, rowNumber}
+use Rattle.text.proofs.Cases.{by-cond}
+use Rattle.files.proofs.AnswerNumbers.{answer-number}
+use Rattle.text.proofs.DecimalLaws.{decimal-back}
+use Rattle.text.proofs.ShapeLaws.{shape-least, number-below, fits-none, fits-decimal, written-right, written-numbers}
+use Rattle.text.proofs.LineLaws.{line-shape, line-number}
 
 pub narrow-row : narrow rowWidths ≡ true
-unfolding narrow
 narrow-row = refl
 
 -- ---- the answer, by the tests
+
+-- both clauses of the reader's contract
+pub row-told : (r : RowRead) (s : List ℕ) (last : ℕ) → r ≡ rowAnswer s last → (r ≡ rowAnswer s last) × (rowNumber r ≡ rowRefusal s last)
+unfolding rowAnswer
+row-told r s last e =
+    (e, ap rowNumber e ∙ answer-number rowNumber (rowRefusal s last) (Accepted (rowOf (numbersOf s))) (Refused (rowRefusal s last)) refl refl)
 
 module _ (s : List ℕ) (last : ℕ) where
   row-refused : (n : ℕ) → rowRefusal s last ≡ n → (n ≡ 0 → ⊥) → Refused n ≡ rowAnswer s last
@@ -76,7 +82,7 @@ module _ (s : List ℕ) (last : ℕ) where
 -- P of an answer, where it holds of a refusal and of an accepted row, which has 13 bytes or more and a number of at most
 -- six digits
 pub by-row : (P : RowRead → Type 0) (s : List ℕ) (last : ℕ) → ((n : ℕ) → P (Refused n))
-    → ((x : Row) → rightShape rowWidths s ≡ true → 13 ≤ length s → last + 1 ≤ 999999 → P (Accepted x)) → P (rowAnswer s last)
+    → ((x : Row) → rightShape rowWidths s ≡ true → 13 ≤ length s → last + 1 ≤ lastRow → P (Accepted x)) → P (rowAnswer s last)
 unfolding rowAnswer rowRefusal
 by-row P s last f g =
     by-cond P (eqb (rowRefusal s last) 0) (Accepted (rowOf (numbersOf s))) (Refused (rowRefusal s last))
@@ -93,15 +99,15 @@ by-row P s last f g =
     (eqb-true (rowRefusal s last) 0 e))
     (λ e. f (rowRefusal s last))
 
-pub accepted-row : (s : List ℕ) (last : ℕ) (x : Row) → rowAnswer s last ≡ Accepted x → (13 ≤ length s) × (last + 1 ≤ 999999)
+pub accepted-row : (s : List ℕ) (last : ℕ) (x : Row) → rowAnswer s last ≡ Accepted x → (13 ≤ length s) × (last + 1 ≤ lastRow)
 accepted-row s last x =
-    by-row (λ (a : RowRead). a ≡ Accepted x → (13 ≤ length s) × (last + 1 ≤ 999999)) s last
+    by-row (λ (a : RowRead). a ≡ Accepted x → (13 ≤ length s) × (last + 1 ≤ lastRow)) s last
     (λ n e. let z : _≡_ {A = ℕ} 0 1 = cc in absurd (omega arith))
     (λ y t k m e. (k, m))
 
 -- after row 999,999 no row is right
-pub no-row-after-last : (s : List ℕ) (x : Row) → rowAnswer s 999999 ≡ Accepted x → ⊥
-no-row-after-last s x e = let k = accepted-row s 999999 x e .1 in omega arith
+pub no-row-after-last : (s : List ℕ) (x : Row) → rowAnswer s lastRow ≡ Accepted x → ⊥
+no-row-after-last s x e = let k = accepted-row s lastRow x e .1 in omega arith
 
 -- ---- a row that is written in decimals is read back
 
@@ -118,10 +124,18 @@ module _ (last stamp a b c block : ℕ) (n : last + 1 ≤ 999999) (t : stamp ≤
       (fits-decimal 6 c _ _ (omega arith) (omega arith)
       (fits-decimal 0 block _ _ (omega arith) (omega arith) fits-none)))))
 
-  fields-values : valuesOf fields ≡ (last + 1) ∷ stamp ∷ a ∷ b ∷ c ∷ block ∷ []
-  unfolding valuesOf
-  fields-values = rw (decimal-back (last + 1) (omega arith), decimal-back stamp (omega arith), decimal-back a (omega arith), decimal-back b (omega arith), decimal-back c (omega arith), decimal-back block (omega arith))
+  fields-numbers : numbersOf (written fields) ≡ (last + 1) ∷ stamp ∷ a ∷ b ∷ c ∷ block ∷ []
+  fields-numbers =
+      written-numbers 6 _ fields fields-fit
+      ∙ rw (
+        decimal-back (last + 1) (omega arith),
+        decimal-back stamp (omega arith),
+        decimal-back a (omega arith),
+        decimal-back b (omega arith),
+        decimal-back c (omega arith),
+        decimal-back block (omega arith),
+      )
 
   pub row-back : rowAnswer (written fields) last ≡ Accepted (record { number = last + 1; l1 = a; l2 = b; l3 = c; block = block })
   unfolding rowAnswer rowRefusal
-  row-back = rw (written-right 6 _ fields fields-fit, written-numbers 6 _ fields fields-fit, fields-values, eq-eqb (last + 1) (last + 1) refl, le-leb block 1 kd)
+  row-back = rw (written-right 6 _ fields fields-fit, fields-numbers, eq-eqb (last + 1) (last + 1) refl, le-leb block 1 kd)

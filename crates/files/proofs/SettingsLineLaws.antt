@@ -1,6 +1,6 @@
 -- From the line that was read to the settings line's answer.
 -- Assumes nothing.
-use mathlib.Core.Path.{_≡_, refl, sym, _∙_}
+use mathlib.Core.Path.{_≡_, refl, sym, ap, _∙_}
 use mathlib.Core.Bool.{true, false}
 use mathlib.Core.List.{List}
 use Prim.Native.Nat.{ℕ, _^_, _<_}
@@ -8,15 +8,22 @@ use native.Mathlib.Omega.{arith}
 use lib.ListN.{getD}
 use borrow.Author.Tests.{ne-eqb}
 use Rattle.phase.specs.Settings.{settingsRefusal}
-use Rattle.files.specs.declared.line.Line.{Line}
+use Rattle.text.specs.declared.line.Line.{Line}
+use Rattle.files.specs.declared.settings_line.SettingsRead.{SettingsRead}
 use Rattle.files.specs.declared.settings_line.SettingsRead.the-variants.{Accepted, Refused}
-use Rattle.files.specs.Line.{narrow, numbersOf, lineAnswer}
-use Rattle.files.specs.SettingsLine.{settingsWidths, settingsIn, settingsLineRefusal, settingsLineAnswer}
-use Rattle.files.proofs.LineLaws.{line-shape, line-number}
+use Rattle.text.specs.Line.{narrow, numbersOf, lineAnswer}
+use Rattle.files.specs.SettingsLine.{settingsWidths, settingsIn, settingsLineRefusal, settingsLineAnswer, settingsLineNumber}
+use Rattle.files.proofs.AnswerNumbers.{answer-number}
+use Rattle.text.proofs.LineLaws.{line-shape, line-number}
 
 pub narrow-settings : narrow settingsWidths ≡ true
-unfolding narrow
 narrow-settings = refl
+
+-- both clauses of the reader's contract
+pub settings-told : (r : SettingsRead) (s : List ℕ) → r ≡ settingsLineAnswer s → (r ≡ settingsLineAnswer s) × (settingsLineNumber r ≡ settingsLineRefusal s)
+unfolding settingsLineAnswer
+settings-told r s e =
+    (e, ap settingsLineNumber e ∙ answer-number settingsLineNumber (settingsLineRefusal s) (Accepted (settingsIn (numbersOf s))) (Refused (settingsLineRefusal s)) refl refl)
 
 pub settings-refused : (s : List ℕ) (n : ℕ) → settingsLineRefusal s ≡ n → (n ≡ 0 → ⊥) → Refused n ≡ settingsLineAnswer s
 unfolding settingsLineAnswer

@@ -1,9 +1,7 @@
 pub mod Refusals
-pub mod Number
-pub mod Line
 pub mod Row
 pub mod SettingsLine
 pub mod Output
-pub mod Lines
+pub mod Progress
 pub mod Replay
-pub mod Portions
+pub mod device

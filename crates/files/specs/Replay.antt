@@ -1,105 +1,24 @@
--- The replay program, over its whole input (01, 'Rows and the replay program').
-use mathlib.Core.Bool.{cond}
+-- The replay program: what it writes of its whole input (01, 'Rows and the replay program'), and what feeding it by portions
+-- answers. The law `replay-of-calls` says that the bytes so written, one after the other, are those of `replayOf`, however
+-- the input is cut.
+use mathlib.Core.Bool.{Bool, true, false, _&&_}
 use mathlib.Core.List.{List, [], _∷_, _++_}
 use Prim.Native.Nat.{ℕ, _+_}
-use lib.Dec.{eqb}
-use lib.ListN.{length}
-use Rattle.phase.specs.declared.settings.Settings.{Settings}
-use Rattle.relay.specs.declared.tick.RelayTicked.{RelayTicked}
-use Rattle.relay.specs.State.{clearRelay}
-use Rattle.relay.specs.Tick.{relayTickAnswer}
-use Rattle.files.specs.declared.row.Row.{Row}
-use Rattle.files.specs.declared.row.RowRead.{RowRead}
-use Rattle.files.specs.declared.row.RowRead.the-variants as row
-use Rattle.files.specs.declared.settings_line.SettingsRead.{SettingsRead}
-use Rattle.files.specs.declared.settings_line.SettingsRead.the-variants as settings-line
+use lib.Dec.{eqb, leb, ltb}
+use lib.ListN.{length, take, set, replicate}
+use Rattle.text.specs.declared.lines.Closer.the-variants.{CrLf}
+use Rattle.text.specs.declared.lines.Cut.{Cut}
+use Rattle.text.specs.declared.lines.Cut.the-variants.{Held, Closed, TooLong}
+use Rattle.text.specs.Lines.{linesOf, cutOf}
 use Rattle.files.specs.declared.progress.Stage.{Stage}
 use Rattle.files.specs.declared.progress.Stage.the-variants.{Opening, Running, Stopped}
 use Rattle.files.specs.declared.progress.Progress.{Progress}
-use Rattle.files.specs.declared.progress.Noted.{Noted}
-use Rattle.files.specs.Refusals.{wrongShape}
-use Rattle.files.specs.Row.{rowAnswer}
-use Rattle.files.specs.SettingsLine.{settingsLineAnswer}
-use Rattle.files.specs.Lines.{linesOf}
-use Rattle.files.specs.Output.{changeLine, endLine}
+use Rattle.files.specs.declared.replay.Replay.{Replay}
+use Rattle.files.specs.declared.replay.Fed.{Fed}
+use Rattle.files.specs.Output.{endRoom}
+use Rattle.files.specs.Progress.{freshProgress, refuse, afterLine, wroteLine, endOf}
 
--- ---- how far a replay has come
-
--- no settings have been read yet
-abbrev pub noSettings : Settings
-noSettings = record {
-  operation = 0;
-  «start_current» = 0;
-  «time_multiplier» = 0;
-  «minimum_delay» = 0;
-  «definite_delay» = 0;
-  «reset_time» = 0;
-  «start_only» = 0;
-}
-
--- "The program starts from the clear state"; the byte before the first is "0 at first"
-abbrev pub freshProgress : Progress
-freshProgress = record { stage = Opening; settings = noSettings; relay = clearRelay; done = 0; outputs = 0 }
-
--- "After a refusal it stops."
-abbrev pub stopped : ℕ → Progress → Progress
-stopped n p = record { stage = Stopped n; settings = p .settings; relay = p .relay; done = p .done; outputs = p .outputs }
-
--- the settings line, accepted or refused
-abbrev pub opened : Progress → SettingsRead → Progress
-opened p (settings-line.Accepted x) =
-    record { stage = Running; settings = x; relay = p .relay; done = p .done; outputs = p .outputs }
-opened p (settings-line.Refused n) = stopped n p
-
--- the tick of a row: the relay's decision on its currents and block, from the state that the rows before left
-abbrev pub ticked : Progress → Row → RelayTicked
-ticked p x = relayTickAnswer (p .settings) (p .relay) (x .l1) (x .l2) (x .l3) (x .block)
-
--- a row, accepted or refused: only an accepted one ticks, and is done
-abbrev pub stepped : Progress → RowRead → Progress
-stepped p (row.Accepted x) =
-    record { stage = Running; settings = p .settings; relay = ticked p x .state; done = p .done + 1; outputs = ticked p x .outputs }
-stepped p (row.Refused n) = stopped n p
-
--- "one line, row number and output byte, for each tick whose byte differs from the one before"
-abbrev pub changeOf : ℕ → ℕ → ℕ → List ℕ
-changeOf number outputs before = cond (eqb outputs before) [] (changeLine number outputs)
-
-abbrev pub changed : Progress → RowRead → List ℕ
-changed p (row.Accepted x) = changeOf (p .done + 1) (ticked p x .outputs) (p .outputs)
-changed p (row.Refused n) = []
-
--- ---- one line of the input: how far it brings the replay, and what it writes
-
-unfoldable pub afterBy : Stage → Progress → List ℕ → Progress
-afterBy Opening p l = opened p (settingsLineAnswer l)
-afterBy Running p l = stepped p (rowAnswer l (p .done))
-afterBy (Stopped n) p l = p
-
-abbrev pub afterLine : Progress → List ℕ → Progress
-afterLine p l = afterBy (p .stage) p l
-
-unfoldable pub wroteBy : Stage → Progress → List ℕ → List ℕ
-wroteBy Opening p l = []
-wroteBy Running p l = changed p (rowAnswer l (p .done))
-wroteBy (Stopped n) p l = []
-
-abbrev pub wroteLine : Progress → List ℕ → List ℕ
-wroteLine p l = wroteBy (p .stage) p l
-
--- ---- the end
-
--- the refusal number; "an empty input (12)" has no settings line
-unfoldable pub endRefusal : Stage → ℕ
-endRefusal Opening = wrongShape
-endRefusal Running = 0
-endRefusal (Stopped n) = n
-
--- "then the end line: `end`, rows done, the refusal number"
-abbrev pub endOf : Progress → List ℕ
-endOf p = endLine (p .done) (endRefusal (p .stage))
-
--- ---- the whole
+-- ---- the whole input
 
 unfoldable pub byLines : Progress → List (List ℕ) → List ℕ
 byLines p [] = endOf p
@@ -107,8 +26,104 @@ byLines p (l ∷ ls) = wroteLine p l ++ byLines (afterLine p l) ls
 
 -- WHAT THE PROGRAM WRITES, of its whole input
 unfoldable pub replayOf : List ℕ → List ℕ
-replayOf s = byLines freshProgress (linesOf s)
+replayOf s = byLines freshProgress (linesOf CrLf s)
 
--- ---- what the code of one line answers: the progress, and the place after what it wrote
-abbrev pub notedOf : Progress → List ℕ → ℕ → Noted
-notedOf p w at = record { progress = p; written = at + length w }
+-- ---- a state: the progress, and the bytes of the line that has begun
+
+-- "Longest row: 45 bytes"; a settings line is shorter
+abbrev pub longestLine : ℕ
+longestLine = 45
+
+-- a line of one byte more is of wrong shape, wherever it ends
+abbrev pub lineLimit : ℕ
+lineLimit = longestLine + 1
+
+abbrev pub heldLine : Replay → List ℕ
+heldLine r = take (r .count) (r .held)
+
+abbrev pub freshReplay : Replay
+freshReplay = record { progress = freshProgress; held = replicate lineLimit 0; count = 0 }
+
+-- ---- one byte more: it closes the line, or makes it too long, or is held
+
+abbrev pub nextLine : Replay → ℕ → List ℕ
+nextLine r b = heldLine r ++ (b ∷ [])
+
+abbrev pub nextCut : Replay → ℕ → Cut
+nextCut r b = cutOf CrLf lineLimit (nextLine r b)
+
+unfoldable pub fedByteBy : Cut → Replay → ℕ → Replay
+fedByteBy Closed r b = record { progress = afterLine (r .progress) (nextLine r b); held = set (r .held) (r .count) b; count = 0 }
+fedByteBy TooLong r b = record { progress = refuse (r .progress); held = set (r .held) (r .count) b; count = 0 }
+fedByteBy Held r b = record { progress = r .progress; held = set (r .held) (r .count) b; count = r .count + 1 }
+
+abbrev pub fedByte : Replay → ℕ → Replay
+fedByte r b = fedByteBy (nextCut r b) r b
+
+unfoldable pub wroteByteBy : Cut → Replay → ℕ → List ℕ
+wroteByteBy Closed r b = wroteLine (r .progress) (nextLine r b)
+wroteByteBy TooLong r b = []
+wroteByteBy Held r b = []
+
+abbrev pub wroteByte : Replay → ℕ → List ℕ
+wroteByte r b = wroteByteBy (nextCut r b) r b
+
+-- ---- a portion: the state after it, and what it writes
+
+unfoldable pub fed : Replay → List ℕ → Replay
+fed r [] = r
+fed r (b ∷ s) = fed (fedByte r b) s
+
+unfoldable pub writes : Replay → List ℕ → List ℕ
+writes r [] = []
+writes r (b ∷ s) = wroteByte r b ++ writes (fedByte r b) s
+
+-- the room that a portion's output needs at most, by the bytes held and read: no line writes more bytes than it has
+abbrev pub portionRoom : ℕ → ℕ → ℕ
+portionRoom held read = held + read
+
+-- a portion is taken by a state that holds less than a line too long, where the output has that room
+abbrev pub takes : ℕ → ℕ → ℕ → Bool
+takes held read room = ltb held lineLimit && leb (portionRoom held read) room
+
+abbrev pub fedBy : Replay → List ℕ → Fed
+fedBy r s = record { taken = true; state = fed r s; written = length (writes r s) }
+
+-- else it is not taken: the state stays, and nothing is written
+unfoldable pub fedIf : Bool → Replay → List ℕ → Fed
+fedIf true r s = fedBy r s
+fedIf false r s = record { taken = false; state = r; written = 0 }
+
+abbrev pub feedAnswer : Replay → List ℕ → ℕ → Fed
+feedAnswer r s room = fedIf (takes (r .count) (length s) room) r s
+
+unfoldable pub writesIf : Bool → Replay → List ℕ → List ℕ
+writesIf true r s = writes r s
+writesIf false r s = []
+
+abbrev pub feedWrites : Replay → List ℕ → ℕ → List ℕ
+feedWrites r s room = writesIf (takes (r .count) (length s) room) r s
+
+-- ---- the end of the input
+
+-- a line that has begun and is not closed is of wrong shape
+unfoldable pub endIf : Bool → Replay → List ℕ
+endIf true r = endOf (r .progress)
+endIf false r = endOf (refuse (r .progress))
+
+abbrev pub endsWith : Replay → List ℕ
+endsWith r = endIf (eqb (r .count) 0) r
+
+-- nothing is written where the output has less room than any end line may need
+unfoldable pub finishIf : Bool → Replay → List ℕ
+finishIf true r = endsWith r
+finishIf false r = []
+
+abbrev pub finishWrites : Replay → ℕ → List ℕ
+finishWrites r room = finishIf (leb endRoom room) r
+
+-- "After a refusal it stops."
+abbrev pub isStopped : Stage → Bool
+isStopped Opening = false
+isStopped Running = false
+isStopped (Stopped n) = true

@@ -9,11 +9,15 @@ use Rattle.files.specs.declared.row.RowRead.{RowRead}
 use Rattle.files.specs.declared.row.RowRead.the-variants.{Accepted, Refused}
 use Rattle.relay.specs.Refusals.{wrongBlock}
 use Rattle.files.specs.Refusals.{wrongShape, wrongNumber}
-use Rattle.files.specs.Line.{rightShape, numbersOf}
+use Rattle.text.specs.Line.{rightShape, numbersOf}
 
 -- "number, timestamp, L1, L2, L3, block": "Digits only, at most 6, 10, 7, 7, 7 and 1 of them"
 abbrev pub rowWidths : List ℕ
 rowWidths = 6 ∷ 10 ∷ 7 ∷ 7 ∷ 7 ∷ 1 ∷ []
+
+-- the largest number of six digits
+abbrev pub lastRow : ℕ
+lastRow = 999999
 
 -- "The timestamp is read and ignored."
 abbrev pub rowOf : List ℕ → Row

@@ -9,7 +9,7 @@ use Rattle.phase.specs.Settings.{settingsOf, settingsRefusal}
 use Rattle.files.specs.declared.settings_line.SettingsRead.{SettingsRead}
 use Rattle.files.specs.declared.settings_line.SettingsRead.the-variants.{Accepted, Refused}
 use Rattle.files.specs.Refusals.{wrongShape}
-use Rattle.files.specs.Line.{rightShape, numbersOf}
+use Rattle.text.specs.Line.{rightShape, numbersOf}
 
 -- "The settings line holds the seven settings the same way, 1 to 5 digits each."
 abbrev pub settingsWidths : List ℕ

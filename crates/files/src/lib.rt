@@ -1,6 +1,4 @@
-// Layer 4: numbers in text, data rows, the settings line, and the replay.
-mod line;
-mod number;
+// Layer 4: data rows, the settings line, and the replay.
 mod output;
 mod progress;
 pub mod refusals;
@@ -8,9 +6,11 @@ mod replay;
 mod row;
 mod settings_line;
 
+pub use output::END_ROOM;
 pub use progress::Progress;
 pub use progress::Stage;
 pub use replay::Fed;
+pub use replay::LONGEST_LINE;
 pub use replay::Replay;
 pub use replay::feed;
 pub use replay::finish;

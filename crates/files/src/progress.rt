@@ -1,13 +1,13 @@
 // The replay, line by line: the settings line, then the rows.
 ghost use mathlib.Core.Path.{_≡_};
-ghost use Prim.Native.Nat.{_+_, _≤_};
+ghost use Prim.Native.Nat.{_+_, _≤_, _<_};
 ghost use lib.ListN.{length};
 ghost use lib.Seq.{sets};
-ghost use Rattle.files.specs.Row.{rowAnswer};
+ghost use Rattle.files.specs.Row.{lastRow};
 ghost use Rattle.files.specs.SettingsLine.{settingsLineAnswer};
-ghost use Rattle.files.specs.Output.{endRoom};
-ghost use Rattle.files.specs.Replay.{freshProgress, stopped, opened, stepped, changed, changeOf, notedOf, afterLine, wroteLine, endRefusal, endOf};
-ghost use Rattle.files.specs.Portions.{refuse};
+ghost use Rattle.files.specs.Output.{changeRoom, endRoom};
+ghost use Rattle.files.specs.Progress.{freshProgress, stopped, opened, afterTick, wroteTick, afterRow, wroteRow, changeOf, refuse, afterLine, wroteLine, endRefusal, endOf};
+ghost use Rattle.files.specs.device.Calls.{notedOf};
 use crate::output::put_change;
 use crate::output::put_end;
 use crate::refusals::WRONG_SHAPE;
@@ -17,6 +17,7 @@ use crate::settings_line::SettingsRead;
 use crate::settings_line::read_settings_line;
 use phase::Settings;
 use relay::RelayState;
+use relay::tick::RelayTicked;
 
 // What the next line is to be; after a refusal, its number.
 pub enum Stage {
@@ -111,10 +112,10 @@ fn on_settings_line(p: Progress, line: &[u8]) -> Progress
 
 // The line of a tick whose output byte differs from the one before, and nothing for any other.
 fn note_change(out: &mut [u8], at: usize, row: u32, outputs: u8, before: u8) -> usize
-    requires { ⌜ (row ≤ 999999) × (at + 11 ≤ length (now out)) ⌝ }
-    ensures { λ r. ⌜ (r ≡ at + length (changeOf row outputs before))
-        × (now (out .exit) ≡ sets (now (out .entry)) at (changeOf row outputs before)) ⌝ }
-    ensures { λ r. ⌜ r ≤ at + 11 ⌝ }
+    requires { ⌜ (row ≤ lastRow) × (at + changeRoom ≤ length (now out)) ⌝ }
+    ensures place { λ r. ⌜ r ≡ at + length (changeOf row outputs before) ⌝ }
+    ensures output { λ _. ⌜ now (out .exit) ≡ sets (now (out .entry)) at (changeOf row outputs before) ⌝ }
+    ensures short { λ r. ⌜ r ≤ at + changeRoom ⌝ }
 {
     if outputs == before {
         return at;
@@ -122,32 +123,49 @@ fn note_change(out: &mut [u8], at: usize, row: u32, outputs: u8, before: u8) -> 
     put_change(out, at, row, outputs)
 }
 
+// The tick of an accepted row: the row is done where the tick is accepted; else the replay stops.
+fn on_tick(p: Progress, t: RelayTicked, out: &mut [u8], at: usize) -> Noted
+    requires { ⌜ (p .done < lastRow) × (at + changeRoom ≤ length (now out)) ⌝ }
+    ensures noted { λ r. ⌜ r ≡ notedOf (afterTick p t) (wroteTick p t) at ⌝ }
+    ensures output { λ _. ⌜ now (out .exit) ≡ sets (now (out .entry)) at (wroteTick p t) ⌝ }
+    ensures short { λ r. ⌜ r .written ≤ at + changeRoom ⌝ }
+{
+    if t.refusal != 0 {
+        let progress = stop(p, t.refusal);
+        return Noted {
+            progress,
+            written: at,
+        };
+    }
+    let done = p.done + 1;
+    let end = note_change(out, at, done, t.outputs, p.outputs);
+    let settings = p.settings;
+    let relay = t.state;
+    let progress = Progress {
+        stage: Stage::Running,
+        settings,
+        relay,
+        done,
+        outputs: t.outputs,
+    };
+    Noted {
+        progress,
+        written: end,
+    }
+}
+
 // A row. What it writes is never longer than the row itself.
 fn on_row(p: Progress, line: &[u8], out: &mut [u8], at: usize) -> Noted
     requires { ⌜ at + length (now line) ≤ length (now out) ⌝ }
-    ensures { λ r. ⌜ (r ≡ notedOf (stepped p (rowAnswer (now (line .entry)) (p .done))) (changed p (rowAnswer (now (line .entry)) (p .done))) at)
-        × (now (out .exit) ≡ sets (now (out .entry)) at (changed p (rowAnswer (now (line .entry)) (p .done)))) ⌝ }
-    ensures { λ r. ⌜ r .written ≤ at + length (now (line .entry)) ⌝ }
+    ensures noted { λ r. ⌜ r ≡ notedOf (afterRow p (now (line .entry))) (wroteRow p (now (line .entry))) at ⌝ }
+    ensures output { λ _. ⌜ now (out .exit) ≡ sets (now (out .entry)) at (wroteRow p (now (line .entry))) ⌝ }
+    ensures short { λ r. ⌜ r .written ≤ at + length (now (line .entry)) ⌝ }
 {
     let answer = read_row(line, p.done);
     match answer {
         RowRead::Accepted(x) => {
-            let settings = p.settings;
-            let t = relay::tick::tick(settings, p.relay, x.l1, x.l2, x.l3, x.block);
-            let done = p.done + 1;
-            let end = note_change(out, at, done, t.outputs, p.outputs);
-            let relay = t.state;
-            let progress = Progress {
-                stage: Stage::Running,
-                settings,
-                relay,
-                done,
-                outputs: t.outputs,
-            };
-            Noted {
-                progress,
-                written: end,
-            }
+            let t = relay::tick::tick(p.settings, p.relay, x.l1, x.l2, x.l3, x.block);
+            on_tick(p, t, out, at)
         }
         RowRead::Refused(n) => {
             let progress = stop(p, n);
@@ -162,9 +180,9 @@ fn on_row(p: Progress, line: &[u8], out: &mut [u8], at: usize) -> Noted
 // One line of the input, which writes at a place of the output.
 pub(crate) fn on_line(p: Progress, line: &[u8], out: &mut [u8], at: usize) -> Noted
     requires { ⌜ at + length (now line) ≤ length (now out) ⌝ }
-    ensures { λ r. ⌜ (r ≡ notedOf (afterLine p (now (line .entry))) (wroteLine p (now (line .entry))) at)
-        × (now (out .exit) ≡ sets (now (out .entry)) at (wroteLine p (now (line .entry)))) ⌝ }
-    ensures { λ r. ⌜ r .written ≤ at + length (now (line .entry)) ⌝ }
+    ensures noted { λ r. ⌜ r ≡ notedOf (afterLine p (now (line .entry))) (wroteLine p (now (line .entry))) at ⌝ }
+    ensures output { λ _. ⌜ now (out .exit) ≡ sets (now (out .entry)) at (wroteLine p (now (line .entry))) ⌝ }
+    ensures short { λ r. ⌜ r .written ≤ at + length (now (line .entry)) ⌝ }
 {
     let stage = p.stage;
     match stage {
@@ -197,7 +215,8 @@ fn end_refusal(stage: Stage) -> u32
 // The end line, at the front of the output; answers how long it is.
 pub(crate) fn on_end(p: Progress, out: &mut [u8]) -> usize
     requires { ⌜ endRoom ≤ length (now out) ⌝ }
-    ensures { λ r. ⌜ (r ≡ length (endOf p)) × (now (out .exit) ≡ sets (now (out .entry)) 0 (endOf p)) ⌝ }
+    ensures written { λ r. ⌜ r ≡ length (endOf p) ⌝ }
+    ensures output { λ _. ⌜ now (out .exit) ≡ sets (now (out .entry)) 0 (endOf p) ⌝ }
 {
     let stage = p.stage;
     let refusal = end_refusal(stage);

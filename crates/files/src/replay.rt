@@ -1,23 +1,30 @@
 // The replay fed by portions of its input.
 ghost use mathlib.Core.Path.{_≡_};
-ghost use mathlib.Core.Bool.{_&&_};
-ghost use mathlib.Core.List.{_++_, [], _∷_};
 ghost use Prim.Native.Nat.{_+_, _≤_, _<_};
-ghost use lib.Dec.{leb, ltb};
-ghost use lib.ListN.{length, take};
+ghost use lib.ListN.{length};
 ghost use lib.Seq.{sets};
-ghost use Rattle.files.specs.Line.{endsCrLf};
-ghost use Rattle.files.specs.Portions.{lineLimit, freshReplay, writes, takenBy, fedBy, feedAnswer, feedWrites, finishWrites, isStopped};
+ghost use Rattle.files.specs.Replay.{lineLimit, freshReplay, writes, portionRoom, takes, fedBy, feedAnswer, feedWrites, finishWrites, isStopped};
+ghost use Rattle.files.specs.device.Calls.{takenWith};
+use crate::output::END_ROOM;
 use crate::progress::Progress;
 use crate::progress::Stage;
 use crate::progress::on_end;
 use crate::progress::on_line;
 use crate::progress::refuse_shape;
+use text::lines::Closer;
+use text::lines::Cut;
+use text::lines::cut_byte;
+
+// A row has at most so many bytes, and a settings line fewer.
+pub const LONGEST_LINE: usize = 45;
+
+// A line of one byte more is too long.
+pub const LINE_LIMIT: usize = LONGEST_LINE + 1;
 
 // The progress of the replay, and the bytes of the line that has begun: the first `count` of `held`.
 pub struct Replay {
     pub progress: Progress,
-    pub held: [u8; 46],
+    pub held: [u8; LINE_LIMIT],
     pub count: usize,
 }
 
@@ -29,41 +36,20 @@ pub struct Fed {
 }
 
 impl Replay {
-    // One byte more than the longest row has.
-    pub const LINE_LIMIT: usize = 46;
-
-    // Room for any end line.
-    pub const END_ROOM: usize = 26;
-
     pub fn fresh() -> Self
         ensures { λ r. ⌜ r ≡ freshReplay ⌝ }
     {
         let progress = Progress::fresh();
         Replay {
             progress,
-            held: [0u8; 46],
+            held: [0u8; LINE_LIMIT],
             count: 0,
         }
     }
 }
 
-// Whether a byte closes the line of the n bytes held.
-fn closes_line(held: &[u8], n: usize, b: u8) -> bool
-    requires { ⌜ n ≤ length (now held) ⌝ }
-    ensures { λ r. ⌜ r ≡ endsCrLf (take n (now (held .entry)) ++ (b ∷ [])) ⌝ }
-{
-    if n == 0 {
-        return false;
-    }
-    if b != b'\n' {
-        return false;
-    }
-    let k = n - 1;
-    held[k] == b'\r'
-}
-
-fn taken(progress: Progress, held: [u8; 46], count: usize, written: usize) -> Fed
-    ensures { λ r. ⌜ r ≡ takenBy progress held count written ⌝ }
+fn taken(progress: Progress, held: [u8; LINE_LIMIT], count: usize, written: usize) -> Fed
+    ensures { λ r. ⌜ r ≡ takenWith progress held count written ⌝ }
 {
     let state = Replay {
         progress,
@@ -79,11 +65,10 @@ fn taken(progress: Progress, held: [u8; 46], count: usize, written: usize) -> Fe
 
 // The bytes of a portion. Most of them are only held: a line's end alone touches the progress.
 fn feed_bytes(state: Replay, portion: &[u8], out: &mut [u8]) -> Fed
-    requires { ⌜ (state .count < lineLimit) × (state .count + length (now portion) ≤ length (now out)) ⌝ }
-    ensures { λ r. ⌜ (r ≡ fedBy state (now (portion .entry)))
-        × (now (out .exit) ≡ sets (now (out .entry)) 0 (writes state (now (portion .entry)))) ⌝ }
-    ensures { λ r. ⌜ (r .state .count < lineLimit)
-        × (r .written + r .state .count ≤ state .count + length (now (portion .entry))) ⌝ }
+    requires { ⌜ (state .count < lineLimit) × (portionRoom (state .count) (length (now portion)) ≤ length (now out)) ⌝ }
+    ensures answer { λ r. ⌜ r ≡ fedBy state (now (portion .entry)) ⌝ }
+    ensures output { λ _. ⌜ now (out .exit) ≡ sets (now (out .entry)) 0 (writes state (now (portion .entry))) ⌝ }
+    ensures within { λ r. ⌜ r .written ≤ portionRoom (state .count) (length (now (portion .entry))) ⌝ }
 {
     let mut progress = state.progress;
     let mut held = state.held;
@@ -93,49 +78,62 @@ fn feed_bytes(state: Replay, portion: &[u8], out: &mut [u8]) -> Fed
     while i < portion.len() {
         let b = portion[i];
         i += 1;
-        let closed = closes_line(&held, n, b);
-        held[n] = b;
+        let cut = cut_byte(&mut held, n, b, LINE_LIMIT, Closer::CrLf);
         n += 1;
-        if closed {
-            let t = on_line(progress, &held[..n], out, at);
-            let after = t.progress;
-            progress = after;
-            at = t.written;
-            n = 0;
-            continue;
-        }
-        if n == Replay::LINE_LIMIT {
-            let after = refuse_shape(progress);
-            progress = after;
-            n = 0;
-            continue;
+        match cut {
+            Cut::Held => {
+                continue;
+            }
+            Cut::Closed => {
+                let t = on_line(progress, &held[..n], out, at);
+                let after = t.progress;
+                progress = after;
+                at = t.written;
+                n = 0;
+                continue;
+            }
+            Cut::TooLong => {
+                let after = refuse_shape(progress);
+                progress = after;
+                n = 0;
+                continue;
+            }
         }
     }
     taken(progress, held, n, at)
 }
 
-// Whether a state that holds `count` bytes takes a portion of `read` bytes into an output of `room` bytes.
-fn takes_portion(count: usize, read: usize, room: usize) -> bool
-    ensures { λ r. ⌜ r ≡ ltb count lineLimit && leb (count + read) room ⌝ }
+// The room that a portion's output needs at most.
+fn portion_room(held: usize, portion: &[u8]) -> usize
+    requires { ⌜ held < lineLimit ⌝ }
+    ensures { λ r. ⌜ r ≡ portionRoom held (length (now (portion .entry))) ⌝ }
 {
-    if Replay::LINE_LIMIT <= count {
-        return false;
-    }
-    if room < count {
-        return false;
-    }
-    read <= room - count
+    held + portion.len()
 }
 
-// Feeds a portion of the input: what it writes stands at the front of `out`, and the other bytes of `out` stay. An `out`
-// as large as the portion and what is held always suffices, so one with 45 bytes more than the portion.
+// Whether a state that holds `held` bytes takes a portion into an output of `room` bytes.
+fn takes_portion(held: usize, portion: &[u8], room: usize) -> bool
+    ensures { λ r. ⌜ r ≡ takes held (length (now (portion .entry))) room ⌝ }
+{
+    if LINE_LIMIT <= held {
+        return false;
+    }
+    portion_room(held, portion) <= room
+}
+
+// Feeds a portion of the input: what it writes stands at the front of `out`, and the other bytes of `out` stay. An `out` of
+// `portion_room` always suffices, so one with LONGEST_LINE bytes more than the portion.
 pub fn feed(state: Replay, portion: &[u8], out: &mut [u8]) -> Fed
-    ensures { λ r. ⌜ (r ≡ feedAnswer state (now (portion .entry)) (length (now (out .entry))))
-        × (now (out .exit) ≡ sets (now (out .entry)) 0 (feedWrites state (now (portion .entry)) (length (now (out .entry))))) ⌝ }
-    ensures { λ r. ⌜ r .written ≤ length (now (out .exit)) ⌝ }
+    ensures answer { λ r. do
+      room ← ⟦out.len()⟧ .entry
+      ⌜ r ≡ feedAnswer state (now (portion .entry)) room ⌝ }
+    ensures output { λ _. do
+      room ← ⟦out.len()⟧ .entry
+      ⌜ now (out .exit) ≡ sets (now (out .entry)) 0 (feedWrites state (now (portion .entry)) room) ⌝ }
+    ensures within { λ r. ⌜ r .written ≤ length (now (out .exit)) ⌝ }
 {
     let count = state.count;
-    if takes_portion(count, portion.len(), out.len()) {
+    if takes_portion(count, portion, out.len()) {
         return feed_bytes(state, portion, out);
     }
     Fed {
@@ -145,14 +143,18 @@ pub fn feed(state: Replay, portion: &[u8], out: &mut [u8]) -> Fed
     }
 }
 
-// Ends the input: writes the end line at the front of `out` and answers its length. Where `out` has less than 26 bytes it
-// writes nothing and answers 0.
+// Ends the input: writes the end line at the front of `out` and answers its length. Where `out` has less than END_ROOM
+// bytes it writes nothing and answers 0.
 pub fn finish(state: Replay, out: &mut [u8]) -> usize
-    ensures { λ r. ⌜ (r ≡ length (finishWrites state (length (now (out .entry)))))
-        × (now (out .exit) ≡ sets (now (out .entry)) 0 (finishWrites state (length (now (out .entry))))) ⌝ }
-    ensures { λ r. ⌜ r ≤ length (now (out .exit)) ⌝ }
+    ensures written { λ r. do
+      room ← ⟦out.len()⟧ .entry
+      ⌜ r ≡ length (finishWrites state room) ⌝ }
+    ensures output { λ _. do
+      room ← ⟦out.len()⟧ .entry
+      ⌜ now (out .exit) ≡ sets (now (out .entry)) 0 (finishWrites state room) ⌝ }
+    ensures within { λ r. ⌜ r ≤ length (now (out .exit)) ⌝ }
 {
-    if out.len() < Replay::END_ROOM {
+    if out.len() < END_ROOM {
         return 0;
     }
     let count = state.count;

@@ -1,10 +1,10 @@
 // A data row: number, timestamp, L1, L2, L3, block.
 ghost use mathlib.Core.Path.{_≡_};
-ghost use Rattle.files.specs.Row.{rowAnswer};
-use crate::line::read_line;
+ghost use Rattle.files.specs.Row.{rowRefusal, rowAnswer, rowNumber};
 use crate::refusals::WRONG_NUMBER;
 use crate::refusals::WRONG_SHAPE;
 use relay::refusals::WRONG_BLOCK;
+use text::line::read_line;
 
 pub struct Row {
     pub number: u32,
@@ -21,7 +21,8 @@ pub enum RowRead {
 
 // Reads the row that these bytes are, after a row of number `last` (0 before the first).
 pub fn read_row(row: &[u8], last: u32) -> RowRead
-    ensures { λ r. ⌜ r ≡ rowAnswer (now (row .entry)) last ⌝ }
+    ensures answer { λ r. ⌜ r ≡ rowAnswer (now (row .entry)) last ⌝ }
+    ensures number { λ r. ⌜ rowNumber r ≡ rowRefusal (now (row .entry)) last ⌝ }
 {
     let widths = [6usize, 10, 7, 7, 7, 1];
     let line = read_line(row, &widths);

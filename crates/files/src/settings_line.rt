@@ -1,9 +1,9 @@
 // The settings line: the seven settings, in the order of document 01's table.
 ghost use mathlib.Core.Path.{_≡_};
-ghost use Rattle.files.specs.SettingsLine.{settingsLineAnswer};
-use crate::line::read_line;
+ghost use Rattle.files.specs.SettingsLine.{settingsLineRefusal, settingsLineAnswer, settingsLineNumber};
 use crate::refusals::WRONG_SHAPE;
 use phase::Settings;
+use text::line::read_line;
 
 pub enum SettingsRead {
     Accepted(Settings),
@@ -12,7 +12,8 @@ pub enum SettingsRead {
 
 // Reads the settings line that these bytes are.
 pub fn read_settings_line(line: &[u8]) -> SettingsRead
-    ensures { λ r. ⌜ r ≡ settingsLineAnswer (now (line .entry)) ⌝ }
+    ensures answer { λ r. ⌜ r ≡ settingsLineAnswer (now (line .entry)) ⌝ }
+    ensures number { λ r. ⌜ settingsLineNumber r ≡ settingsLineRefusal (now (line .entry)) ⌝ }
 {
     let widths = [5usize, 5, 5, 5, 5, 5, 5];
     let l = read_line(line, &widths);

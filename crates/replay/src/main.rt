@@ -1,13 +1,16 @@
 // The replay program: a settings line and data rows on standard input, changes and the end line on standard output.
+use files::END_ROOM;
 use files::Fed;
+use files::LONGEST_LINE;
 use files::Replay;
 use libc::STDIN_FILENO;
 use libc::STDOUT_FILENO;
 ghost use mathlib.Core.Path.{_≡_};
 ghost use mathlib.Core.Bool.{true};
-ghost use Prim.Native.Nat.{_+_, _≤_};
+ghost use Prim.Native.Nat.{_≤_};
 ghost use lib.ListN.{length};
-ghost use Rattle.files.specs.Portions.{Sound};
+ghost use Rattle.files.specs.Replay.{longestLine, portionRoom};
+ghost use Rattle.files.specs.device.Calls.{Sound};
 
 // The state after a portion; whether there is nothing left to read, and whether a call of the system failed.
 struct Turn {
@@ -16,9 +19,15 @@ struct Turn {
     failed: bool,
 }
 
-// An output with 45 bytes more than the portion has room for all that is written: every portion is taken.
+// "It reads input in portions of at most 64 KiB."
+const PORTION: usize = 65536;
+
+// Room for all that a portion writes, whatever the state holds.
+const ROOM: usize = LONGEST_LINE + PORTION;
+
+// Every portion is taken.
 fn take_portion(state: Replay, portion: &[u8], out: &mut [u8]) -> Fed
-    requires { ⌜ (Sound state) × (length (now portion) + 45 ≤ length (now out)) ⌝ }
+    requires { ⌜ (Sound state) × (portionRoom longestLine (length (now portion)) ≤ length (now out)) ⌝ }
     ensures { λ r. ⌜ (r .taken ≡ true) × (Sound (r .state)) × (r .written ≤ length (now (out .exit))) ⌝ }
 {
     files::feed(state, portion, out)
@@ -29,8 +38,8 @@ fn read_portion(state: Replay) -> Turn
     requires { ⌜ Sound state ⌝ }
     ensures { λ r. ⌜ Sound (r .state) ⌝ }
 {
-    let mut portion = [0u8; 65536];
-    let mut out = [0u8; 65581];
+    let mut portion = [0u8; PORTION];
+    let mut out = [0u8; ROOM];
     let got = libc::read(STDIN_FILENO, &mut portion);
     if got <= 0 {
         return Turn {
@@ -68,7 +77,7 @@ fn main() {
         }
         portions -= 1;
     }
-    let mut out = [0u8; 26];
+    let mut out = [0u8; END_ROOM];
     let w = files::finish(state, &mut out);
     io::write_all(STDOUT_FILENO, &out[..w]);
 }

@@ -1,2 +1,10 @@
+pub mod Cases
 pub mod StoreLaws
 pub mod ByteLaws
+pub mod DigitLaws
+pub mod DecimalLaws
+pub mod ScanLaws
+pub mod ShapeLaws
+pub mod LineLaws
+pub mod LinesLaws
+pub mod CutLaws

@@ -1,2 +1,5 @@
 // Text and bytes: a library beneath the layers, which names nothing of relays.
 pub mod bytes;
+pub mod line;
+pub mod lines;
+pub mod number;

@@ -3,7 +3,7 @@
 use native.Mathlib.Omega.{arith}
 use lib.ListN.{length-take}
 use borrow.Author.Needs.{needs}
-use Rattle.files.specs.Portions.{Sound}
+use Rattle.files.specs.device.Calls.{Sound}
 use Rattle.files.proofs.PortionLaws.{fresh-sound}
 use Rattle.replay.proofs.main.Statement.{statement}
 use Rattle.replay.proofs.main.Tie as tie
@@ -45,7 +45,7 @@ array-share-prefix-out : tie.Need-array-share-prefix-out Inv-loop μ-loop
 array-share-prefix-out c = search needs
 
 slice-aggregate-write-all : tie.Need-slice-aggregate-write-all Inv-loop μ-loop
-slice-aggregate-write-all c = simp length-take (omega (arith, c .before .before .finish .ensures .1))
+slice-aggregate-write-all c = simp length-take (omega (arith, c .before .before .finish .ensures .1 .1))
 
 write-all-requires : tie.Need-write-all-requires Inv-loop μ-loop
 write-all-requires c κs = search needs

@@ -1,7 +1,7 @@
 -- `files::progress::end_refusal` meets its contract: by the stage.
 -- Assumes nothing.
 use mathlib.Core.Path.{sym, ap}
-use Rattle.files.specs.Replay.{endRefusal}
+use Rattle.files.specs.Progress.{endRefusal}
 use borrow.Author.Needs.{needs}
 use Rattle.files.proofs.progress.end_refusal.Statement.{statement}
 use Rattle.files.proofs.progress.end_refusal.Tie as tie

@@ -7,7 +7,7 @@ use Rattle.files.proofs.progress.note_change.Statement.{statement}
 use Rattle.files.proofs.progress.note_change.Tie as tie
 
 returns : tie.Need-returns
-returns c = ((simp (eq-eqb _ _ (c .if1 .taken)) (omega arith), simp (eq-eqb _ _ (c .if1 .taken))), omega arith)
+returns c = (simp (eq-eqb _ _ (c .if1 .taken)) (omega arith), (simp (eq-eqb _ _ (c .if1 .taken)), omega arith))
 
 put-change-requires : tie.Need-put-change-requires
 put-change-requires c κs = search needs
@@ -16,7 +16,10 @@ same-length : tie.Need-same-length
 same-length c = search needs
 
 returns-2 : tie.Need-returns-2
-returns-2 c = let e = c .before .before .put-change .ensures in (simp (ne-eqb _ _ (c .before .before .before .before .if1 .left)) (e .0), e .1)
+returns-2 c =
+    let e = c .before .before .put-change .ensures in
+    let n = ne-eqb _ _ (c .before .before .before .before .if1 .left) in
+    (simp n (e .0), (simp n (e .1 .0), e .1 .1))
 
 pub note-change-spec : {M : Type 1} → statement M
 note-change-spec = tie.close (tie.spec returns put-change-requires same-length returns-2)

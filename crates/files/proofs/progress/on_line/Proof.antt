@@ -27,11 +27,8 @@ returns : tie.Need-returns
 returns c =
     let a = c .before .before .before .before .before .args in
     let e = c .before .enum-told .given .1 in (
-      (
-        opening-noted (a .p) (a .line .now) (a .at) (c .on-settings-line .result) e (c .on-settings-line .ensures),
-        opening-quiet (a .p) (a .line .now) (a .at) (a .out .now) e,
-      ),
-      omega arith,
+      opening-noted (a .p) (a .line .now) (a .at) (c .on-settings-line .result) e (c .on-settings-line .ensures),
+      (opening-quiet (a .p) (a .line .now) (a .at) (a .out .now) e, omega arith),
     )
 
 same-length : tie.Need-same-length
@@ -42,18 +39,15 @@ returns-2 c =
     let a = c .before .before .before .before .before .before .before .before .args in
     let e = c .before .before .before .before .enum-told2 .given .1 in
     let f = c .before .before .on-row .ensures in (
-      (
-        running-noted (a .p) (a .line .now) (a .at) e _ (f .0 .0),
-        f .0 .1 ∙ ap (sets (a .out .now) (a .at)) (running-wrote (a .p) (a .line .now) (a .at) e),
-      ),
-      f .1,
+      running-noted (a .p) (a .line .now) (a .at) e _ (f .0),
+      (f .1 .0 ∙ ap (sets (a .out .now) (a .at)) (running-wrote (a .p) (a .line .now) (a .at) e), f .1 .1),
     )
 
 returns-3 : tie.Need-returns-3
 returns-3 c =
     let a = c .before .before .before .before .args in
     let e = c .enum-told3 .given .1 in
-    ((stopped-noted (a .p) (a .line .now) (a .at) _ e, stopped-quiet (a .p) (a .line .now) (a .at) (a .out .now) _ e), omega arith)
+    (stopped-noted (a .p) (a .line .now) (a .at) _ e, (stopped-quiet (a .p) (a .line .now) (a .at) (a .out .now) _ e, omega arith))
 
 pub on-line-spec : {M : Type 1} → statement M
 on-line-spec =

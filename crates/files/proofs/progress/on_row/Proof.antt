@@ -5,7 +5,7 @@ use native.Mathlib.Omega.{arith}
 use lib.Seq.{sets}
 use Rattle.files.specs.Row.{rowAnswer}
 use Rattle.files.proofs.RowLaws.{accepted-row}
-use Rattle.files.proofs.ProgressLaws.{row-change, row-noted, refused-noted, refused-quiet}
+use Rattle.files.proofs.ProgressLaws.{accepted-wrote, accepted-noted, refused-noted, refused-quiet}
 use borrow.Author.Needs.{needs}
 use Rattle.files.proofs.progress.on_row.Statement.{statement}
 use Rattle.files.proofs.progress.on_row.Tie as tie
@@ -19,20 +19,13 @@ enum-known-answer c = search needs
 tick-requires : tie.Need-tick-requires
 tick-requires c κs = search needs
 
-add-done : tie.Need-add-done
-add-done c =
-    let a = c .before .before .before .before .before .before .before .before .before .args in
-    let x = c .before .before .before .before .answer .given .0 .0 in
-    let q = sym (c .before .before .before .before .before .before .read-row .ensures) ∙ c .before .before .before .before .answer .given .1 in
-    omega (arith, accepted-row (a .line .now) (a .p .done) x q)
-
-note-change-requires : tie.Need-note-change-requires
-note-change-requires c κs =
-    let a = c .before .before .before .before .before .before .before .before .before .before .args in
-    let x = c .before .before .before .before .before .answer .given .0 .0 in
-    let q = sym (c .before .before .before .before .before .before .before .read-row .ensures) ∙ c .before .before .before .before .before .answer .given .1 in
+on-tick-requires : tie.Need-on-tick-requires
+on-tick-requires c κs =
+    let a = c .before .before .before .before .before .before .before .before .args in
+    let x = c .before .before .before .answer .given .0 .0 in
+    let q = sym (c .before .before .before .before .before .read-row .ensures .0) ∙ c .before .before .before .answer .given .1 in
     let k = accepted-row (a .line .now) (a .p .done) x q in
-    (omega arith, omega (arith, c .before .before .before .before .before .before .before .before .before .before .pre))
+    (omega arith, omega (arith, c .before .before .before .before .before .before .before .before .pre))
 
 enum-known-answer-2 : tie.Need-enum-known-answer-2
 enum-known-answer-2 c = search needs
@@ -45,18 +38,18 @@ same-length c = search needs
 
 returns : tie.Need-returns
 returns c =
-    let a = c .before .before .before .before .before .before .before .before .before .before .before .before .before .before .args in
-    let x = c .before .before .before .before .before .before .before .before .before .answer .given .0 .0 in
-    let q = sym (c .before .before .before .before .before .before .before .before .before .before .before .read-row .ensures) ∙ c .before .before .before .before .before .before .before .before .before .answer .given .1 in
+    let a = c .before .before .before .before .before .before .before .before .before .before .before .args in
+    let x = c .before .before .before .before .before .before .answer .given .0 .0 in
+    let q = sym (c .before .before .before .before .before .before .before .before .read-row .ensures .0) ∙ c .before .before .before .before .before .before .answer .given .1 in
     let r = rowAnswer (a .line .now) (a .p .done) in
-    let t = c .before .before .before .before .before .before .tick in
-    let f = c .before .before .before .note-change .ensures in
+    let t = c .before .before .before .before .tick in
+    let f = c .before .before .on-tick .ensures in
     let k = accepted-row (a .line .now) (a .p .done) x q in (
+      accepted-noted (a .p) r x (t .result) q (t .ensures) _ (a .at) (f .0),
       (
-        row-noted (a .p) r x (t .result) q (t .ensures) _ (a .at) (f .0 .0),
-        f .0 .1 ∙ ap (sets (a .out .now) (a .at)) (sym (row-change (a .p) r x (t .result) q (t .ensures))),
+        f .1 .0 ∙ ap (sets (a .out .now) (a .at)) (accepted-wrote (a .p) r x (t .result) q (t .ensures)),
+        omega (arith, f .1 .1),
       ),
-      omega (arith, f .1),
     )
 
 returns-2 : tie.Need-returns-2
@@ -64,9 +57,9 @@ returns-2 c =
     let a = c .before .before .before .before .before .before .before .args in
     let r = rowAnswer (a .line .now) (a .p .done) in
     let n = c .before .before .answer2 .given .0 .0 in
-    let q = sym (c .before .before .before .before .read-row .ensures) ∙ c .before .before .answer2 .given .1 in (
-      (refused-noted (a .p) r n q (c .stop .result) (a .at) (c .stop .ensures), refused-quiet (a .p) r n q (a .out .now) (a .at)),
-      omega arith,
+    let q = sym (c .before .before .before .before .read-row .ensures .0) ∙ c .before .before .answer2 .given .1 in (
+      refused-noted (a .p) r n q (c .stop .result) (a .at) (c .stop .ensures),
+      (refused-quiet (a .p) r n q (a .out .now) (a .at), omega arith),
     )
 
 pub on-row-spec : {M : Type 1} → statement M
@@ -76,8 +69,7 @@ on-row-spec =
     read-row-requires
     enum-known-answer
     tick-requires
-    add-done
-    note-change-requires
+    on-tick-requires
     enum-known-answer-2
     stop-requires
     same-length

@@ -1,7 +1,7 @@
 -- `files::progress::on_settings_line` meets its contract: by the answer of the reader.
 -- Assumes nothing.
 use mathlib.Core.Path.{sym, ap, _∙_}
-use Rattle.files.specs.Replay.{opened}
+use Rattle.files.specs.Progress.{opened}
 use borrow.Author.Needs.{needs}
 use Rattle.files.proofs.progress.on_settings_line.Statement.{statement}
 use Rattle.files.proofs.progress.on_settings_line.Tie as tie
@@ -21,12 +21,12 @@ stop-requires c κs = search needs
 returns : tie.Need-returns
 returns c =
     let a = c .before .before .before .before .before .before .args in
-    ap (opened (a .p)) (sym (c .before .before .answer .given .1) ∙ c .before .before .before .before .read-settings-line .ensures)
+    ap (opened (a .p)) (sym (c .before .before .answer .given .1) ∙ c .before .before .before .before .read-settings-line .ensures .0)
 
 returns-2 : tie.Need-returns-2
 returns-2 c =
     let a = c .before .before .before .before .before .before .args in
-    c .stop .ensures ∙ ap (opened (a .p)) (sym (c .before .before .answer2 .given .1) ∙ c .before .before .before .before .read-settings-line .ensures)
+    c .stop .ensures ∙ ap (opened (a .p)) (sym (c .before .before .answer2 .given .1) ∙ c .before .before .before .before .read-settings-line .ensures .0)
 
 pub on-settings-line-spec : {M : Type 1} → statement M
 on-settings-line-spec =

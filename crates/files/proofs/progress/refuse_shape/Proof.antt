@@ -2,7 +2,7 @@
 -- Assumes nothing.
 use mathlib.Core.Path.{sym, ap, _∙_}
 use Rattle.files.specs.declared.progress.Stage.{Stage}
-use Rattle.files.specs.Portions.{refuseBy}
+use Rattle.files.specs.Progress.{refuseBy}
 use borrow.Author.Needs.{needs}
 use Rattle.files.proofs.progress.refuse_shape.Statement.{statement}
 use Rattle.files.proofs.progress.refuse_shape.Tie as tie

@@ -27,23 +27,23 @@ returns c =
     let e = sym (c .before .before .before .before .before .takes-portion .ensures) ∙ c .before .before .before .before .if1 .taken in
     let f = c .before .before .feed-bytes .ensures in
     let room = taken-room (a .state) (a .portion .now) (length (a .out .now)) e in
-    let k : length (c .before .before .feed-bytes .last .1 .1 .0) ≡ length (a .out .now) = ap length (f .0 .1) ∙ simp length-sets in (
+    let k : length (c .before .before .feed-bytes .last .1 .1 .0) ≡ length (a .out .now) = ap length (f .1 .0) ∙ simp length-sets in (
+      f .0 ∙ sym (taken-answer (a .state) (a .portion .now) (length (a .out .now)) e),
       (
-        f .0 .0 ∙ sym (taken-answer (a .state) (a .portion .now) (length (a .out .now)) e),
-        f .0 .1 ∙ ap (sets (a .out .now) 0) (sym (taken-writes (a .state) (a .portion .now) (length (a .out .now)) e)),
+        f .1 .0 ∙ ap (sets (a .out .now) 0) (sym (taken-writes (a .state) (a .portion .now) (length (a .out .now)) e)),
+        omega (arith, f .1 .1),
       ),
-      omega (arith, f .1 .1),
     )
 
 returns-2 : tie.Need-returns-2
 returns-2 c =
     let a = c .before .before .before .before .args in
     let e = sym (c .before .takes-portion .ensures) ∙ c .if1 .left in (
+      sym (untaken-answer (a .state) (a .portion .now) (length (a .out .now)) e),
       (
-        sym (untaken-answer (a .state) (a .portion .now) (length (a .out .now)) e),
         ap (sets (a .out .now) 0) (sym (untaken-writes (a .state) (a .portion .now) (length (a .out .now)) e)),
+        omega arith,
       ),
-      omega arith,
     )
 
 pub feed-spec : {M : Type 1} → statement M

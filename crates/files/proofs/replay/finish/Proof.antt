@@ -5,7 +5,7 @@ use native.Mathlib.Omega.{arith}
 use lib.ListN.{length}
 use lib.Seq.{sets, length-sets}
 use borrow.Author.Needs.{needs}
-use Rattle.files.specs.Replay.{endRefusal, endOf}
+use Rattle.files.specs.Progress.{endRefusal, endOf}
 use Rattle.files.proofs.OutputLaws.{end-short}
 use Rattle.files.proofs.AnswerLaws.{finish-cramped, finish-closed, finish-open}
 use Rattle.files.proofs.replay.finish.Statement.{statement}
@@ -15,7 +15,7 @@ returns : tie.Need-returns
 returns c =
     let a = c .before .before .args in
     let q = finish-cramped (a .state) (length (a .out .now)) (c .if1 .taken) in
-    ((ap length (sym q), ap (sets (a .out .now) 0) (sym q)), omega arith)
+    (ap length (sym q), (ap (sets (a .out .now) 0) (sym q), omega arith))
 
 on-end-requires : tie.Need-on-end-requires
 on-end-requires c κs = search needs
@@ -29,8 +29,11 @@ returns-2 c =
     let f = c .before .before .on-end .ensures in
     let q = finish-closed (a .state) (length (a .out .now)) (omega arith) (c .before .before .before .before .if2 .taken) in
     let k : length (c .before .before .on-end .last .1 .0) ≡ length (a .out .now) = ap length (f .1) ∙ simp length-sets in (
-      (f .0 ∙ ap length (sym q), f .1 ∙ ap (sets (a .out .now) 0) (sym q)),
-      omega (arith, f .0, end-short (a .state .progress .done) (endRefusal (a .state .progress .stage))),
+      f .0 ∙ ap length (sym q),
+      (
+        f .1 ∙ ap (sets (a .out .now) 0) (sym q),
+        omega (arith, f .0, end-short (a .state .progress .done) (endRefusal (a .state .progress .stage))),
+      ),
     )
 
 refuse-shape-requires : tie.Need-refuse-shape-requires
@@ -48,8 +51,11 @@ returns-3 c =
     let f = c .before .before .on-end2 .ensures in
     let q = finish-open (a .state) (length (a .out .now)) (omega arith) (c .before .before .before .before .before .if2 .left) ∙ ap endOf (sym (c .before .before .before .before .refuse-shape .ensures)) in
     let k : length (c .before .before .on-end2 .last .1 .0) ≡ length (a .out .now) = ap length (f .1) ∙ simp length-sets in (
-      (f .0 ∙ ap length (sym q), f .1 ∙ ap (sets (a .out .now) 0) (sym q)),
-      omega (arith, f .0, end-short (c .before .before .before .before .refuse-shape .result .done) (endRefusal (c .before .before .before .before .refuse-shape .result .stage))),
+      f .0 ∙ ap length (sym q),
+      (
+        f .1 ∙ ap (sets (a .out .now) 0) (sym q),
+        omega (arith, f .0, end-short (c .before .before .before .before .refuse-shape .result .done) (endRefusal (c .before .before .before .before .refuse-shape .result .stage))),
+      ),
     )
 
 pub finish-spec : {M : Type 1} → statement M

@@ -2,7 +2,7 @@
 -- Assumes nothing.
 use native.Mathlib.Omega.{arith}
 use borrow.Author.Tests.{not-true, not-false}
-use Rattle.files.proofs.RowLaws.{narrow-row, row-fits, row-shape, row-number, row-block, row-accepted}
+use Rattle.files.proofs.RowLaws.{narrow-row, row-fits, row-shape, row-number, row-block, row-accepted, row-told}
 use borrow.Author.Needs.{needs}
 use Rattle.files.proofs.row.read_row.Statement.{statement}
 use Rattle.files.proofs.row.read_row.Tie as tie
@@ -17,7 +17,7 @@ returns : tie.Need-returns
 returns c =
     let a = c .before .before .before .before .before .args in
     let l = c .before .before .read-line in
-    row-shape (a .row .now) (a .last) (l .result) (l .ensures) (not-true (l .result .right) (c .if1 .taken))
+    row-told _ (a .row .now) (a .last) (row-shape (a .row .now) (a .last) (l .result) (l .ensures) (not-true (l .result .right) (c .if1 .taken)))
 
 array-read-if2 : tie.Need-array-read-if2
 array-read-if2 c = search needs
@@ -29,7 +29,7 @@ returns-2 : tie.Need-returns-2
 returns-2 c =
     let a = c .before .before .before .before .before .before .before .args in
     let l = c .before .before .before .before .read-line in
-    row-number (a .row .now) (a .last) (l .result) (l .ensures) (not-false (l .result .right) (c .before .before .if1 .left)) (c .if2 .taken)
+    row-told _ (a .row .now) (a .last) (row-number (a .row .now) (a .last) (l .result) (l .ensures) (not-false (l .result .right) (c .before .before .if1 .left)) (c .if2 .taken))
 
 array-read-if3 : tie.Need-array-read-if3
 array-read-if3 c = search needs
@@ -38,7 +38,7 @@ returns-3 : tie.Need-returns-3
 returns-3 c =
     let a = c .before .before .before .before .before .before .before .before .args in
     let l = c .before .before .before .before .before .read-line in
-    row-block (a .row .now) (a .last) (l .result) (l .ensures) (not-false (l .result .right) (c .before .before .before .if1 .left)) (c .before .if2 .left) (c .if3 .taken)
+    row-told _ (a .row .now) (a .last) (row-block (a .row .now) (a .last) (l .result) (l .ensures) (not-false (l .result .right) (c .before .before .before .if1 .left)) (c .before .if2 .left) (c .if3 .taken))
 
 array-read-t13 : tie.Need-array-read-t13
 array-read-t13 c = search needs
@@ -90,7 +90,7 @@ returns-4 : tie.Need-returns-4
 returns-4 c =
     let a = c .before .before .before .before .before .before .before .before .args in
     let l = c .before .before .before .before .before .read-line in
-    row-accepted (a .row .now) (a .last) (l .result) (l .ensures) (not-false (l .result .right) (c .before .before .before .if1 .left)) (c .before .if2 .left) (c .if3 .left)
+    row-told _ (a .row .now) (a .last) (row-accepted (a .row .now) (a .last) (l .result) (l .ensures) (not-false (l .result .right) (c .before .before .before .if1 .left)) (c .before .if2 .left) (c .if3 .left))
 
 pub read-row-spec : {M : Type 1} → statement M
 read-row-spec =

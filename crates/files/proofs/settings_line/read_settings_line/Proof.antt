@@ -3,7 +3,7 @@
 use mathlib.Core.Path.{sym, _∙_}
 use native.Mathlib.Omega.{arith}
 use borrow.Author.Tests.{not-true, not-false}
-use Rattle.files.proofs.SettingsLineLaws.{narrow-settings, settings-fits, settings-shape, settings-checked, settings-accepted}
+use Rattle.files.proofs.SettingsLineLaws.{narrow-settings, settings-fits, settings-shape, settings-checked, settings-accepted, settings-told}
 use borrow.Author.Needs.{needs}
 use Rattle.files.proofs.settings_line.read_settings_line.Statement.{statement}
 use Rattle.files.proofs.settings_line.read_settings_line.Tie as tie
@@ -18,7 +18,7 @@ returns : tie.Need-returns
 returns c =
     let a = c .before .before .before .before .before .args in
     let l = c .before .before .read-line in
-    settings-shape (a .line .now) (l .result) (l .ensures) (not-true (l .result .right) (c .if1 .taken))
+    settings-told _ (a .line .now) (settings-shape (a .line .now) (l .result) (l .ensures) (not-true (l .result .right) (c .if1 .taken)))
 
 array-read-t12 : tie.Need-array-read-t12
 array-read-t12 c = search needs
@@ -97,13 +97,13 @@ returns-2 : tie.Need-returns-2
 returns-2 c =
     let a = c .before .before .before .before .before .before .before .before .args in
     let l = c .before .before .before .before .before .read-line in
-    settings-checked (a .line .now) (l .result) (l .ensures) (not-false (l .result .right) (c .before .before .before .if1 .left)) (c .before .check .result) (c .before .check .ensures) (c .if2 .taken)
+    settings-told _ (a .line .now) (settings-checked (a .line .now) (l .result) (l .ensures) (not-false (l .result .right) (c .before .before .before .if1 .left)) (c .before .check .result) (c .before .check .ensures) (c .if2 .taken))
 
 returns-3 : tie.Need-returns-3
 returns-3 c =
     let a = c .before .before .before .before .before .before .before .before .args in
     let l = c .before .before .before .before .before .read-line in
-    settings-accepted (a .line .now) (l .result) (l .ensures) (not-false (l .result .right) (c .before .before .before .if1 .left)) (sym (c .before .check .ensures) ∙ c .if2 .left)
+    settings-told _ (a .line .now) (settings-accepted (a .line .now) (l .result) (l .ensures) (not-false (l .result .right) (c .before .before .before .if1 .left)) (sym (c .before .check .ensures) ∙ c .if2 .left))
 
 pub read-settings-line-spec : {M : Type 1} → statement M
 read-settings-line-spec =

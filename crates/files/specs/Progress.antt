@@ -1,0 +1,120 @@
+-- How far a replay has come, line by line (01, 'Rows and the replay program').
+use mathlib.Core.Bool.{cond}
+use mathlib.Core.List.{List, []}
+use Prim.Native.Nat.{ℕ, _+_}
+use lib.Dec.{eqb}
+use Rattle.phase.specs.declared.settings.Settings.{Settings}
+use Rattle.relay.specs.declared.tick.RelayTicked.{RelayTicked}
+use Rattle.relay.specs.State.{clearRelay}
+use Rattle.relay.specs.Tick.{relayTickAnswer}
+use Rattle.files.specs.declared.row.Row.{Row}
+use Rattle.files.specs.declared.row.RowRead.{RowRead}
+use Rattle.files.specs.declared.row.RowRead.the-variants as row
+use Rattle.files.specs.declared.settings_line.SettingsRead.{SettingsRead}
+use Rattle.files.specs.declared.settings_line.SettingsRead.the-variants as settings-line
+use Rattle.files.specs.declared.progress.Stage.{Stage}
+use Rattle.files.specs.declared.progress.Stage.the-variants.{Opening, Running, Stopped}
+use Rattle.files.specs.declared.progress.Progress.{Progress}
+use Rattle.files.specs.Refusals.{wrongShape}
+use Rattle.files.specs.Row.{rowAnswer}
+use Rattle.files.specs.SettingsLine.{settingsLineAnswer}
+use Rattle.files.specs.Output.{changeLine, endLine}
+
+-- no settings have been read yet
+abbrev pub noSettings : Settings
+noSettings = record {
+  operation = 0;
+  «start_current» = 0;
+  «time_multiplier» = 0;
+  «minimum_delay» = 0;
+  «definite_delay» = 0;
+  «reset_time» = 0;
+  «start_only» = 0;
+}
+
+-- "The program starts from the clear state"; the byte before the first is "0 at first"
+abbrev pub freshProgress : Progress
+freshProgress = record { stage = Opening; settings = noSettings; relay = clearRelay; done = 0; outputs = 0 }
+
+-- "After a refusal it stops."
+abbrev pub stopped : ℕ → Progress → Progress
+stopped n p = record { stage = Stopped n; settings = p .settings; relay = p .relay; done = p .done; outputs = p .outputs }
+
+-- the settings line, accepted or refused
+abbrev pub opened : Progress → SettingsRead → Progress
+opened p (settings-line.Accepted x) =
+    record { stage = Running; settings = x; relay = p .relay; done = p .done; outputs = p .outputs }
+opened p (settings-line.Refused n) = stopped n p
+
+-- the tick of a row: the relay's decision on its currents and block, from the state that the rows before left
+abbrev pub ticked : Progress → Row → RelayTicked
+ticked p x = relayTickAnswer (p .settings) (p .relay) (x .l1) (x .l2) (x .l3) (x .block)
+
+-- a row whose tick was accepted is done
+abbrev pub rowDone : Progress → RelayTicked → Progress
+rowDone p t = record { stage = Running; settings = p .settings; relay = t .state; done = p .done + 1; outputs = t .outputs }
+
+-- a refused tick stops the replay too: `no-tick-refused` says that none is met from the fresh start
+abbrev pub afterTick : Progress → RelayTicked → Progress
+afterTick p t = cond (eqb (t .refusal) 0) (rowDone p t) (stopped (t .refusal) p)
+
+-- a row, accepted or refused: only an accepted one ticks
+abbrev pub stepped : Progress → RowRead → Progress
+stepped p (row.Accepted x) = afterTick p (ticked p x)
+stepped p (row.Refused n) = stopped n p
+
+-- "one line, row number and output byte, for each tick whose byte differs from the one before"
+abbrev pub changeOf : ℕ → ℕ → ℕ → List ℕ
+changeOf number outputs before = cond (eqb outputs before) [] (changeLine number outputs)
+
+abbrev pub wroteTick : Progress → RelayTicked → List ℕ
+wroteTick p t = cond (eqb (t .refusal) 0) (changeOf (p .done + 1) (t .outputs) (p .outputs)) []
+
+abbrev pub changed : Progress → RowRead → List ℕ
+changed p (row.Accepted x) = wroteTick p (ticked p x)
+changed p (row.Refused n) = []
+
+abbrev pub afterRow : Progress → List ℕ → Progress
+afterRow p l = stepped p (rowAnswer l (p .done))
+
+abbrev pub wroteRow : Progress → List ℕ → List ℕ
+wroteRow p l = changed p (rowAnswer l (p .done))
+
+-- ---- one line of the input: how far it brings the replay, and what it writes
+
+unfoldable pub afterBy : Stage → Progress → List ℕ → Progress
+afterBy Opening p l = opened p (settingsLineAnswer l)
+afterBy Running p l = afterRow p l
+afterBy (Stopped n) p l = p
+
+abbrev pub afterLine : Progress → List ℕ → Progress
+afterLine p l = afterBy (p .stage) p l
+
+unfoldable pub wroteBy : Stage → Progress → List ℕ → List ℕ
+wroteBy Opening p l = []
+wroteBy Running p l = wroteRow p l
+wroteBy (Stopped n) p l = []
+
+abbrev pub wroteLine : Progress → List ℕ → List ℕ
+wroteLine p l = wroteBy (p .stage) p l
+
+-- a line that is of wrong shape, whatever follows
+unfoldable pub refuseBy : Stage → Progress → Progress
+refuseBy Opening p = stopped wrongShape p
+refuseBy Running p = stopped wrongShape p
+refuseBy (Stopped n) p = p
+
+abbrev pub refuse : Progress → Progress
+refuse p = refuseBy (p .stage) p
+
+-- ---- the end
+
+-- the refusal number; "an empty input (12)" has no settings line
+unfoldable pub endRefusal : Stage → ℕ
+endRefusal Opening = wrongShape
+endRefusal Running = 0
+endRefusal (Stopped n) = n
+
+-- "then the end line: `end`, rows done, the refusal number"
+abbrev pub endOf : Progress → List ℕ
+endOf p = endLine (p .done) (endRefusal (p .stage))

@@ -1,0 +1,179 @@
+-- Cutting a stream into lines, byte by byte and portion by portion: for any cutting into portions the lines are those of the
+-- whole, and of a line that is too long the cutter has seen the first bytes, as many as its limit.
+-- Assumes nothing.
+use mathlib.Core.Path.{_≡_, refl, sym, ap, _∙_}
+use mathlib.Core.Bool.{Bool, true, false, cond, _&&_, _||_, and-false, or-false}
+use mathlib.Core.List.{List, [], _∷_, _++_}
+use Prim.Native.Nat.{ℕ, suc, _+_, _-_, _≤_, _<_}
+use native.Mathlib.Omega.{arith}
+use lib.Dec.{eqb}
+use lib.ListN.{length, getD, take, length-append, length-take}
+use lib.Seq.{take-suc, take-length, take-take, take-append-seam, append-snoc}
+use borrow.Author.Tests.{eq-eqb, ne-eqb, eqb-true, eqb-false}
+use Rattle.text.specs.declared.lines.Closer.{Closer}
+use Rattle.text.specs.declared.lines.Cut.{Cut}
+use Rattle.text.specs.declared.lines.Cut.the-variants.{Held, Closed, TooLong}
+use Rattle.text.specs.Line.{isLf, endsCrLf}
+use Rattle.text.specs.Lines.{endsLf, closedBy, lastLine, linesFrom, linesOf, cutOf, joined}
+use Rattle.text.proofs.Cases.{by-cond}
+use Rattle.text.proofs.ShapeLaws.{ends-two}
+
+-- ---- whether a byte closes the line of the n bytes held
+
+pub cr-lf-first : (b : ℕ) (s : List ℕ) → endsCrLf (take 0 s ++ (b ∷ [])) ≡ false
+unfolding endsCrLf isLf
+cr-lf-first b s = rw (and-false (eqb b 13))
+
+cr-lf-some : (b k : ℕ) (s : List ℕ) → k < length s → endsCrLf (take (suc k) s ++ (b ∷ [])) ≡ eqb (getD s k 0) 13 && eqb b 10
+cr-lf-some b k s h = rw (take-suc s k 0 h, append-snoc (take k s) (getD s k 0) (b ∷ [])) (ends-two (take k s) (getD s k 0) b)
+
+pub cr-lf-at : (b n : ℕ) (s : List ℕ) → (n ≡ 0 → ⊥) → n ≤ length s → endsCrLf (take n s ++ (b ∷ [])) ≡ eqb (getD s (n - 1) 0) 13 && eqb b 10
+cr-lf-at b n s h l =
+    let e : n ≡ suc (n - 1) = omega arith in
+    ap (λ (m : ℕ). endsCrLf (take m s ++ (b ∷ []))) e ∙ cr-lf-some b (n - 1) s (omega arith)
+
+-- the last byte tells
+pub lf-last : (l : List ℕ) (b : ℕ) → endsLf (l ++ (b ∷ [])) ≡ eqb b 10
+unfolding endsLf isLf
+lf-last [] b = or-false (eqb b 10)
+lf-last (a ∷ l) b =
+    let n : length (l ++ (b ∷ [])) ≡ length l + 1 = length-append l (b ∷ []) in
+    rw (ne-eqb (suc (length (l ++ (b ∷ [])))) 1 (λ e. omega arith)) (lf-last l b)
+
+-- ---- what the cutter answers, by the line
+
+module _ (closer : Closer) (limit : ℕ) (line : List ℕ) where
+  pub by-cut : (P : Cut → Type 0) → (closedBy closer line ≡ true → P Closed) → (closedBy closer line ≡ false → length line ≡ limit → P TooLong)
+      → (closedBy closer line ≡ false → (length line ≡ limit → ⊥) → P Held) → P (cutOf closer limit line)
+  by-cut P f g h =
+      by-cond P (closedBy closer line) Closed (cond (eqb (length line) limit) TooLong Held) f
+      (λ e. by-cond P (eqb (length line) limit) TooLong Held (λ t. g e (eqb-true (length line) limit t)) (λ t. h e (eqb-false (length line) limit t)))
+
+  pub held-not-full : cutOf closer limit line ≡ Held → length line ≡ limit → ⊥
+  held-not-full =
+      by-cut (λ (k : Cut). k ≡ Held → length line ≡ limit → ⊥)
+      (λ e k. let z : _≡_ {A = ℕ} 0 1 = cc in absurd (omega arith))
+      (λ e n k. let z : _≡_ {A = ℕ} 0 1 = cc in absurd (omega arith))
+      (λ e n k. n)
+
+  pub too-long-length : cutOf closer limit line ≡ TooLong → length line ≡ limit
+  too-long-length =
+      by-cut (λ (k : Cut). k ≡ TooLong → length line ≡ limit)
+      (λ e k. let z : _≡_ {A = ℕ} 0 1 = cc in absurd (omega arith))
+      (λ e n k. n)
+      (λ e n k. let z : _≡_ {A = ℕ} 0 1 = cc in absurd (omega arith))
+
+-- by the n bytes held and the next
+module _ (closer : Closer) (limit n b : ℕ) (held : List ℕ) (h : n ≤ length held) where
+  abbrev next : List ℕ
+  next = take n held ++ (b ∷ [])
+
+  pub next-length : length next ≡ n + 1
+  next-length = rw (length-append, length-take) (omega arith)
+
+  pub cut-closed : closedBy closer next ≡ true → Closed ≡ cutOf closer limit next
+  cut-closed e = rw e
+
+  module _ (e : closedBy closer next ≡ false) where
+    pub cut-too-long : n + 1 ≡ limit → TooLong ≡ cutOf closer limit next
+    cut-too-long k = rw (e, next-length, eq-eqb (n + 1) limit k)
+
+    pub cut-held : (n + 1 ≡ limit → ⊥) → Held ≡ cutOf closer limit next
+    cut-held k = rw (e, next-length, ne-eqb (n + 1) limit k)
+
+-- ---- the lines of a stream, one byte on
+
+pub lines-cons : (closer : Closer) (l s : List ℕ) (b : ℕ)
+    → linesFrom closer l (b ∷ s)
+    ≡ cond (closedBy closer (l ++ (b ∷ []))) ((l ++ (b ∷ [])) ∷ linesFrom closer [] s) (linesFrom closer (l ++ (b ∷ [])) s)
+unfolding linesFrom
+lines-cons closer l s b = refl
+
+pub lines-nil : (closer : Closer) (l : List ℕ) → linesFrom closer l [] ≡ lastLine l
+unfolding linesFrom
+lines-nil closer l = refl
+
+pub last-nothing : lastLine [] ≡ []
+unfolding lastLine
+last-nothing = refl
+
+pub last-line : (l : List ℕ) → 0 < length l → lastLine l ≡ l ∷ []
+unfolding lastLine
+last-line [] h = absurd (omega arith)
+last-line (a ∷ l) h = refl
+
+-- ---- portions
+
+pub joined-none : joined [] ≡ []
+unfolding joined
+joined-none = refl
+
+pub joined-more : (p : List ℕ) (ps : List (List ℕ)) → joined (p ∷ ps) ≡ p ++ joined ps
+unfolding joined
+joined-more p ps = refl
+
+-- ---- a portion: the lines that it closes, after `line` was held, and what is held then
+
+unfoldable pub cutLines : Closer → List ℕ → List ℕ → List (List ℕ)
+cutLines closer line [] = []
+cutLines closer line (b ∷ s) =
+    cond (closedBy closer (line ++ (b ∷ []))) ((line ++ (b ∷ [])) ∷ cutLines closer [] s) (cutLines closer (line ++ (b ∷ [])) s)
+
+unfoldable pub cutRest : Closer → List ℕ → List ℕ → List ℕ
+cutRest closer line [] = line
+cutRest closer line (b ∷ s) =
+    cond (closedBy closer (line ++ (b ∷ []))) (cutRest closer [] s) (cutRest closer (line ++ (b ∷ [])) s)
+
+portion-if : (closer : Closer) (t : Bool) (l s u : List ℕ)
+    → linesFrom closer [] (s ++ u) ≡ cutLines closer [] s ++ linesFrom closer (cutRest closer [] s) u
+    → linesFrom closer l (s ++ u) ≡ cutLines closer l s ++ linesFrom closer (cutRest closer l s) u
+    → cond t (l ∷ linesFrom closer [] (s ++ u)) (linesFrom closer l (s ++ u))
+    ≡ cond t (l ∷ cutLines closer [] s) (cutLines closer l s) ++ linesFrom closer (cond t (cutRest closer [] s) (cutRest closer l s)) u
+portion-if closer true l s u e f = ap (λ (ls : List (List ℕ)). l ∷ ls) e
+portion-if closer false l s u e f = f
+
+-- what is left of the stream after a portion gives the rest of its lines
+lines-portion : (closer : Closer) (l s u : List ℕ) → linesFrom closer l (s ++ u) ≡ cutLines closer l s ++ linesFrom closer (cutRest closer l s) u
+unfolding cutLines cutRest
+lines-portion closer l [] u = refl
+lines-portion closer l (b ∷ s) u =
+    lines-cons closer l (s ++ u) b
+    ∙ portion-if closer (closedBy closer (l ++ (b ∷ []))) (l ++ (b ∷ [])) s u (lines-portion closer [] s u) (lines-portion closer (l ++ (b ∷ [])) s u)
+
+-- portions one after the other, and then the end
+unfoldable pub cutAll : Closer → List ℕ → List (List ℕ) → List (List ℕ)
+cutAll closer line [] = lastLine line
+cutAll closer line (p ∷ ps) = cutLines closer line p ++ cutAll closer (cutRest closer line p) ps
+
+all-lines : (closer : Closer) (l : List ℕ) (ps : List (List ℕ)) → cutAll closer l ps ≡ linesFrom closer l (joined ps)
+unfolding cutAll joined
+all-lines closer l [] = sym (lines-nil closer l)
+all-lines closer l (p ∷ ps) = rw (all-lines closer (cutRest closer l p) ps) (sym (lines-portion closer l p (joined ps)))
+
+-- WHAT A CLIENT RELIES ON: whatever the portions, the lines that are cut are those of the whole stream
+pub lines-of-portions : (closer : Closer) (ps : List (List ℕ)) → cutAll closer [] ps ≡ linesOf closer (joined ps)
+lines-of-portions closer ps = all-lines closer [] ps
+
+-- ---- a line that is too long: what was seen of it are its first bytes
+
+unfoldable pub firstLine : List (List ℕ) → List ℕ
+firstLine [] = []
+firstLine (l ∷ ls) = l
+
+first-begins : (closer : Closer) (l s : List ℕ) → 0 < length l → take (length l) (firstLine (linesFrom closer l s)) ≡ l
+unfolding firstLine
+first-begins closer l [] h = rw (lines-nil closer l, last-line l h) (take-length l)
+first-begins closer l (b ∷ s) h =
+    let n : length (l ++ (b ∷ [])) ≡ length l + 1 = length-append l (b ∷ []) in
+    rw (lines-cons closer l s b)
+    (by-cond (λ (ls : List (List ℕ)). take (length l) (firstLine ls) ≡ l) (closedBy closer (l ++ (b ∷ []))) ((l ++ (b ∷ [])) ∷ linesFrom closer [] s) (linesFrom closer (l ++ (b ∷ [])) s)
+    (λ e. take-append-seam l (b ∷ []))
+    (λ e.
+    sym (take-take (length l) (length (l ++ (b ∷ []))) (firstLine (linesFrom closer (l ++ (b ∷ [])) s)) (omega arith))
+    ∙ ap (take (length l)) (first-begins closer (l ++ (b ∷ [])) s (omega arith))
+    ∙ take-append-seam l (b ∷ [])))
+
+pub too-long-seen : (closer : Closer) (limit : ℕ) (line s : List ℕ) → 0 < limit → cutOf closer limit line ≡ TooLong → take limit (firstLine (linesFrom closer line s)) ≡ line
+too-long-seen closer limit line s h e =
+    let n = too-long-length closer limit line e in
+    ap (λ (k : ℕ). take k (firstLine (linesFrom closer line s))) (sym n) ∙ first-begins closer line s (omega arith)

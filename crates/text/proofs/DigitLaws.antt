@@ -1,0 +1,110 @@
+-- The digits that a text begins with, one at a time.
+-- Assumes nothing.
+use mathlib.Core.Path.{_≡_, sym, ap, _∙_}
+use mathlib.Core.Bool.{true}
+use mathlib.Core.List.{List, [], _∷_}
+use Prim.Native.Nat.{ℕ, zero, suc, _+_, _-_, _*_, _^_, _≤_, _<_}
+use native.Mathlib.Nat.{pow-suc, pow-le-pow-right}
+use native.Mathlib.Numerals.{add-one}
+use native.Mathlib.Omega.{arith}
+use lib.Dec.{leb, lit<}
+use lib.ListN.{length, getD, drop}
+use lib.Seq.{drop-cons, drop-length}
+use borrow.Author.Tests.{le-leb, lt-leb, leb-true}
+use Rattle.text.proofs.Cases.{by-cond}
+use Rattle.checks.proofs.Tests.{both-true}
+use Rattle.text.specs.declared.number.Digits.{Digits}
+use Rattle.text.specs.Number.{isDigit, leading, valueFrom, valueOf, digitsFrom}
+
+-- ---- how many, and how large
+
+pub leading-length : (w : ℕ) (s : List ℕ) → length (leading w s) ≤ w
+unfolding leading
+leading-length zero s = omega arith
+leading-length (suc w) [] = omega arith
+leading-length (suc w) (b ∷ s) =
+    by-cond (λ (l : List ℕ). length l ≤ suc w) (isDigit b) (b ∷ leading w s) [] (λ e. omega (arith, leading-length w s)) (λ e. omega arith)
+
+pub leading-within : (w : ℕ) (s : List ℕ) → length (leading w s) ≤ length s
+unfolding leading
+leading-within zero s = omega arith
+leading-within (suc w) [] = omega arith
+leading-within (suc w) (b ∷ s) =
+    by-cond (λ (l : List ℕ). length l ≤ suc (length s)) (isDigit b) (b ∷ leading w s) [] (λ e. omega (arith, leading-within w s)) (λ e. omega arith)
+
+-- a byte that is a digit is at most 57
+pub digit-small : (b : ℕ) → isDigit b ≡ true → b ≤ 57
+digit-small b h = leb-true b 57 (both-true (leb 48 b) (leb b 57) h .1)
+
+-- v of j digits, with one more
+pub one-more : (v d j : ℕ) → v < 10 ^ j → d < 10 → v * 10 + d < 10 ^ (j + 1)
+one-more v d j h k = rw (add-one, pow-suc) (omega arith)
+
+pub value-below : (w : ℕ) (s : List ℕ) (v j : ℕ) → v < 10 ^ j → valueFrom v (leading w s) < 10 ^ (j + w)
+unfolding leading valueFrom
+value-below zero s v j h = let e : j + 0 ≡ j = omega arith in rw e h
+value-below (suc w) [] v j h = let l : j ≤ j + suc w = omega arith in omega (arith, pow-le-pow-right {n = 10} (omega arith) l)
+value-below (suc w) (b ∷ s) v j h =
+    let k : j + suc w ≡ j + 1 + w = omega arith in
+    let l : j ≤ j + suc w = omega arith in
+    by-cond (λ (l : List ℕ). valueFrom v l < 10 ^ (j + suc w)) (isDigit b) (b ∷ leading w s) []
+    (λ e. rw k (value-below w s (v * 10 + (b - 48)) (j + 1) (one-more v (b - 48) j h (omega (arith, digit-small b e)))))
+    (λ e. omega (arith, pow-le-pow-right {n = 10} (omega arith) l))
+
+pub value-small : (w : ℕ) (s : List ℕ) → valueOf (leading w s) < 10 ^ w
+value-small w s = let e : 0 + w ≡ w = omega arith in rw e at (value-below w s 0 0 (lit< tt))
+
+-- ---- a turn of the reader: what is left gives the whole
+
+module _ (w n v p : ℕ) (s : List ℕ) where
+  abbrev rest : Digits
+  rest = digitsFrom n v (leading (w - n) (drop p s))
+
+  abbrev here : Digits
+  here = record { count = n; value = v }
+
+  pub digits-full : w ≤ n → here ≡ rest
+  unfolding leading valueFrom
+  digits-full h = let e : w - n ≡ 0 = omega arith in let z : n + 0 ≡ n = omega arith in rw (e, z)
+
+  module _ (h : n < w) where
+    split : w - n ≡ suc (w - (n + 1))
+    split = omega arith
+
+    pub digits-end : p ≡ length s → here ≡ rest
+    unfolding leading valueFrom
+    digits-end e = let z : n + 0 ≡ n = omega arith in rw (split, e, drop-length s, z)
+
+    module _ (k : p < length s) where
+      pub digits-low : getD s p 0 < 48 → here ≡ rest
+      unfolding leading valueFrom
+      digits-low a = let z : n + 0 ≡ n = omega arith in rw (split, drop-cons s p 0 k, lt-leb 48 (getD s p 0) a, z)
+
+      pub digits-high : 57 < getD s p 0 → here ≡ rest
+      unfolding leading valueFrom
+      digits-high a = let z : n + 0 ≡ n = omega arith in rw (split, drop-cons s p 0 k, le-leb 48 (getD s p 0) (omega arith), lt-leb (getD s p 0) 57 a, z)
+
+      pub digits-more : 48 ≤ getD s p 0 → getD s p 0 ≤ 57
+          → rest ≡ digitsFrom (n + 1) (v * 10 + (getD s p 0 - 48)) (leading (w - (n + 1)) (drop (p + 1) s))
+      unfolding leading valueFrom
+      digits-more a b =
+          let z : (m : ℕ) → n + suc m ≡ n + 1 + m = λ m. omega arith in
+          rw (split, drop-cons s p 0 k, le-leb 48 (getD s p 0) a, le-leb (getD s p 0) 57 b, z, add-one p)
+
+-- nine digits and one more fit in 64 bits
+pub nine-digits : (v n : ℕ) → v < 10 ^ n → n < 10 → v < 1000000000
+nine-digits v n h k = let l : n ≤ 9 = omega arith in omega (arith, pow-le-pow-right {n = 10} (omega arith) l)
+
+pub digits-none : (s : List ℕ) (at w : ℕ) → (0 < 10 ^ 0) × (digitsFrom 0 0 (leading (w - 0) (drop (at + 0) s)) ≡ digitsFrom 0 0 (leading w (drop at s)))
+digits-none s at w = let e : w - 0 ≡ w = omega arith in let f : at + 0 ≡ at = omega arith in (lit< tt, rw (e, f))
+
+-- a turn, in the reader's own terms
+pub digits-again : (w n v at : ℕ) (s : List ℕ) → n < w → at + n < length s → 48 ≤ getD s (at + n) 0 → getD s (at + n) 0 ≤ 57
+    → digitsFrom (n + 1) (v * 10 + (getD s (at + n) 0 - 48)) (leading (w - (n + 1)) (drop (at + (n + 1)) s))
+    ≡ digitsFrom n v (leading (w - n) (drop (at + n) s))
+digits-again w n v at s h k a b =
+    let e : at + (n + 1) ≡ at + n + 1 = omega arith in
+    rw e (sym (digits-more w n v (at + n) s h k a b))
+
+pub digits-count : (d : Digits) (w : ℕ) (s : List ℕ) → d ≡ digitsFrom 0 0 (leading w s) → d .count ≡ length (leading w s)
+digits-count d w s e = let z : 0 + length (leading w s) ≡ length (leading w s) = omega arith in ap (λ (x : Digits). x .count) e ∙ z

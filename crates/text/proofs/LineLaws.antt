@@ -1,0 +1,49 @@
+-- What the reader of lines answers, and what its caller learns.
+-- Assumes nothing.
+use mathlib.Core.Path.{_≡_, refl, sym, ap, _∙_}
+use mathlib.Core.Bool.{true, false}
+use mathlib.Core.List.{List, [], _∷_}
+use Prim.Native.Nat.{ℕ, suc, _^_, _≤_, _<_}
+use native.Mathlib.Omega.{arith}
+use lib.ListN.{length, getD, replicate, List·getD-append}
+use lib.Seq.{sets-eq}
+use Rattle.text.specs.declared.line.Line.{Line}
+use Rattle.text.specs.Line.{fieldLimit, rightShape, numbersOf, placed, wrongLine, rightLine, lineAnswer}
+use Rattle.text.proofs.Cases.{by-cond}
+use Rattle.text.proofs.ScanLaws.{scans, scanned}
+use Rattle.text.proofs.ShapeLaws.{scan-right, scan-numbers, number-below}
+
+-- ---- the scan's outcome gives the answer
+
+module _ (ws s : List ℕ) (n : 1 ≤ length ws) where
+  pub line-wrong : scans ws s ≡ false → wrongLine ≡ lineAnswer ws s
+  line-wrong e = rw (sym (scan-right ws s n) ∙ e)
+
+  pub line-right : (ns : List ℕ) → scans ws s ≡ true → ns ≡ placed (scanned ws s) → record { right = true; numbers = ns } ≡ lineAnswer ws s
+  line-right ns e f =
+      let h : rightShape ws s ≡ true = sym (scan-right ws s n) ∙ e in
+      rw (h, f, scan-numbers ws s h)
+
+-- ---- the numbers out of their places
+
+scanned-length : (ws s : List ℕ) → length (scanned ws s) ≡ length ws
+unfolding scanned
+scanned-length [] s = refl
+scanned-length (w ∷ ws) s = ap suc (scanned-length ws _)
+
+module _ (ws s : List ℕ) (n : 1 ≤ length ws) (r : Line) (e : r ≡ lineAnswer ws s) where
+  pub line-shape : r .right ≡ rightShape ws s
+  line-shape =
+      ap (λ (x : Line). x .right) e
+      ∙ by-cond (λ (x : Line). x .right ≡ rightShape ws s) (rightShape ws s) (rightLine (numbersOf s)) wrongLine (λ t. sym t) (λ t. sym t)
+
+  -- the number of field k, and that it fits its width
+  pub line-number : r .right ≡ true → (k : ℕ) → length ws ≤ fieldLimit → k < length ws
+      → (getD (r .numbers) k 0 ≡ getD (numbersOf s) k 0) × (getD (numbersOf s) k 0 < 10 ^ getD ws k 0)
+  line-number t k h l =
+      let right : rightShape ws s ≡ true = sym line-shape ∙ t in
+      let m : length (numbersOf s) ≡ length ws = ap length (sym (scan-numbers ws s right)) ∙ scanned-length ws s in
+      let q : r ≡ rightLine (numbersOf s) = e ∙ rw right in
+      let p : getD (placed (numbersOf s)) k 0 ≡ getD (numbersOf s) k 0 =
+      rw (sets-eq (numbersOf s) (replicate fieldLimit 0) 0 (omega arith)) (List·getD-append (numbersOf s) _ 0 k (omega arith)) in
+      (ap (λ (x : Line). getD (x .numbers) k 0) q ∙ p, number-below ws s n right k)
