@@ -11,8 +11,7 @@ use lib.Dec.{leb, ltb}
 use Rattle.timer.specs.Answer.{accepted, answered}
 use Rattle.timer.specs.Inputs.{inputOf}
 use Rattle.timer.specs.Refusals.{invalidTimer, delayTooLong}
-use Rattle.timer.specs.Rules.{fires, Rule, byRule}
-use Rattle.timer.specs.Rules.Rule.{setDelay, hold, resetDelay, flipFlop}
+use Rattle.timer.specs.Rules.{fires, setDelayRule, holdRule, resetDelayRule, flipFlopRule}
 use Rattle.timer.specs.State.{countLimit, delayLimit, freshTimer, validTimer}
 use Rattle.timer.specs.Timer.{timerAnswer}
 use Rattle.timer.specs.declared.answer.Timed.{Timed}
@@ -20,17 +19,32 @@ use Rattle.timer.specs.declared.inputs.Inputs.{Inputs}
 use Rattle.timer.specs.declared.state.TimerState.{TimerState}
 use Rattle.timer.proofs.Runs.{outputs, stateAfter, WithoutReset}
 
-pub accepted-by-rule : (rule : Rule) (state : TimerState) (d : ℕ) → validTimer state ≡ true → leb d delayLimit ≡ true
-    → timerAnswer rule false state d ≡ byRule rule d state
-unfolding timerAnswer
-accepted-by-rule rule state d valid fits = rw (valid, fits)
+-- ---- one call
 
-pub reset-makes-fresh : (rule : Rule) (state : TimerState) (d : ℕ) → validTimer state ≡ true → leb d delayLimit ≡ true
-    → timerAnswer rule true state d ≡ accepted freshTimer false
+pub accepted-gives-ruled : (state : TimerState) (d : ℕ) (ruled : Timed) → validTimer state ≡ true
+    → leb d delayLimit ≡ true → timerAnswer false state d ruled ≡ ruled
 unfolding timerAnswer
-reset-makes-fresh rule state d valid fits = rw (valid, fits)
+accepted-gives-ruled state d ruled valid fits = rw (valid, fits)
+
+pub reset-makes-fresh : (state : TimerState) (d : ℕ) (ruled : Timed) → validTimer state ≡ true
+    → leb d delayLimit ≡ true → timerAnswer true state d ruled ≡ accepted freshTimer false
+unfolding timerAnswer
+reset-makes-fresh state d ruled valid fits = rw (valid, fits)
 
 -- ---- it leaves a valid state
+
+-- the four rules, each with its input; the flip-flop has a set and a trip input
+pub data Rule : Type 0 where
+  setDelay : Bool → Rule
+  hold : Bool → Rule
+  resetDelay : Bool → Rule
+  flipFlop : Bool → Bool → Rule
+
+abbrev pub byRule : Rule → ℕ → TimerState → Timed
+byRule (setDelay input) d state = setDelayRule d input state
+byRule (hold input) d state = holdRule d input state
+byRule (resetDelay input) d state = resetDelayRule d input state
+byRule (flipFlop set trip) d state = flipFlopRule d set trip state
 
 by-cond : {A : Type 0} (P : A → Type 0) (b : Bool) {x y : A} → P x → P y → P (cond b x y)
 by-cond P true p q = p
@@ -64,7 +78,7 @@ answered-in-limit true false reset state ruled h e = absurd (suc-ne-zero 14 e)
 answered-in-limit false fits reset state ruled h e = absurd (suc-ne-zero 7 e)
 
 pub accepted-leaves-valid : (rule : Rule) (reset : Bool) (state : TimerState) (d : ℕ)
-    → timerAnswer rule reset state d .refusal ≡ 0 → validTimer (timerAnswer rule reset state d .state) ≡ true
+    → timerAnswer reset state d (byRule rule d state) .refusal ≡ 0 → validTimer (timerAnswer reset state d (byRule rule d state) .state) ≡ true
 unfolding timerAnswer
 accepted-leaves-valid rule reset state d e =
     le-leb _ countLimit
@@ -76,7 +90,7 @@ accepted-leaves-valid rule reset state d e =
 
 -- one of the three timers that have one input
 abbrev answerBy : (Bool → Rule) → ℕ → TimerState → Inputs → Timed
-answerBy rule d state inputs = timerAnswer (rule (inputOf inputs)) (inputs .reset) state d
+answerBy rule d state inputs = timerAnswer (inputs .reset) state d (byRule (rule (inputOf inputs)) d state)
 
 -- its rule alone
 abbrev pub ruledBy : (Bool → Rule) → ℕ → TimerState → Inputs → Timed
@@ -96,7 +110,7 @@ run-goes-by-rule rule d state (inputs ∷ rest) valid fits none =
     let next = byRule (rule (inputOf inputs)) d state .state in
     let next-valid = rule-leaves-valid (rule (inputOf inputs)) d state valid fits in
     let then = run-goes-by-rule rule d next rest next-valid fits (none .1) in
-    let tick = accepted-by-rule (rule (inputOf inputs)) state d valid fits in
+    let tick = accepted-gives-ruled state d (byRule (rule (inputOf inputs)) d state) valid fits in
     record {
       outputs-same = rw (none .0, tick, then .outputs-same);
       state-same = rw (none .0, tick, then .state-same);

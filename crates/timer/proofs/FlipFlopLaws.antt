@@ -8,12 +8,12 @@ use mathlib.Core.Path.{_≡_, refl}
 use borrow.Author.Tests.{leb-true}
 use lib.Dec.{leb}
 use Rattle.timer.specs.Answer.{accepted}
-use Rattle.timer.specs.Rules.{counted, byRule}
-use Rattle.timer.specs.Rules.Rule.{flipFlop}
+use Rattle.timer.specs.Rules.{counted, flipFlopRule}
 use Rattle.timer.specs.State.{countLimit, delayLimit, freshTimer, validTimer, withCount}
 use Rattle.timer.specs.Timer.{flipFlopAnswer}
 use Rattle.timer.specs.declared.state.TimerState.{TimerState}
-use Rattle.timer.proofs.Accepted.{accepted-by-rule, reset-makes-fresh, rule-leaves-valid}
+use Rattle.timer.proofs.Accepted.{byRule, accepted-gives-ruled, reset-makes-fresh, rule-leaves-valid}
+use Rattle.timer.proofs.Accepted.Rule.{flipFlop}
 use Rattle.timer.proofs.Counting.{onInARow, counted-in-a-row, over-d-is-latest-on}
 use Rattle.timer.proofs.Runs.{outputs, stateAfter, eachTick, latchedSoFar, SetTrip, flipFlopBy, onThroughout}
 
@@ -21,14 +21,14 @@ use Rattle.timer.proofs.Runs.{outputs, stateAfter, eachTick, latchedSoF
 pub flip-flop-on-is-latched : (d : ℕ) (state : TimerState) (inputs : SetTrip) → leb d delayLimit ≡ true
     → validTimer state ≡ true → flipFlopBy d state inputs .on ≡ flipFlopBy d state inputs .state .latch
 flip-flop-on-is-latched d state inputs fits valid =
-    rw (accepted-by-rule (flipFlop (inputs .set) (inputs .trip)) state d valid fits)
+    rw (accepted-gives-ruled state d (flipFlopRule d (inputs .set) (inputs .trip) state) valid fits)
 
 -- a tick that finds it latched
 latched-tick : (d : ℕ) (state : TimerState) (inputs : SetTrip) → leb d delayLimit ≡ true → validTimer state ≡ true
     → state .latch ≡ true
     → flipFlopBy d state inputs ≡ accepted (withCount (counted (inputs .set) (state .count)) state) true
 latched-tick d state inputs fits valid latch =
-    rw (accepted-by-rule (flipFlop (inputs .set) (inputs .trip)) state d valid fits) (rw latch)
+    rw (accepted-gives-ruled state d (flipFlopRule d (inputs .set) (inputs .trip) state) valid fits) (rw latch)
 
 -- once latched
 pub record StaysOn (d : ℕ) (state : TimerState) (ticks : List SetTrip) : Type 0 where
@@ -53,7 +53,7 @@ flip-flop-stays-on-until-reset d state fits valid latch (inputs ∷ rest) =
 -- A reset makes it off and fresh, whatever its set and trip inputs are.
 pub flip-flop-reset-makes-off-and-fresh : (d : ℕ) (state : TimerState) (set trip : Bool) → leb d delayLimit ≡ true
     → validTimer state ≡ true → flipFlopAnswer state d set trip true ≡ accepted freshTimer false
-flip-flop-reset-makes-off-and-fresh d state set trip fits valid = reset-makes-fresh (flipFlop set trip) state d valid fits
+flip-flop-reset-makes-off-and-fresh d state set trip fits valid = reset-makes-fresh state d (flipFlopRule d set trip state) valid fits
 
 -- ---- from fresh
 
@@ -70,7 +70,7 @@ flip-flop-from-history d fits earlier state valid e latch (inputs ∷ rest) =
     let over = over-d-is-latest-on (λ i. i .set) d (next .count) (inputs ∷ earlier) (leb-true d delayLimit fits) count in
     let latched : next .latch ≡ latchedSoFar d (inputs ∷ earlier) = rw (latchedSoFar, add-one d, over, latch) in
     let then = flip-flop-from-history d fits (inputs ∷ earlier) next (rule-leaves-valid rule d state valid fits) count latched rest in
-    rw (outputs, accepted-by-rule rule state d valid fits, then, latched)
+    rw (outputs, accepted-gives-ruled state d (byRule rule d state) valid fits, then, latched)
 
 -- From fresh and without reset, the flip-flop is on at a tick exactly when at that tick or an earlier one the set input was on
 -- for the (d + 1)-th time in a row, or the trip input was on.

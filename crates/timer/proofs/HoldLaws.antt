@@ -10,12 +10,12 @@ use lib.Dec.{leb}
 use lib.ListN.{length}
 use Rattle.timer.specs.Answer.{accepted}
 use Rattle.timer.specs.Inputs.{inputOf}
-use Rattle.timer.specs.Rules.Rule.{hold}
 use Rattle.timer.specs.State.{countLimit, delayLimit}
 use Rattle.timer.specs.declared.answer.Timed.{Timed}
 use Rattle.timer.specs.declared.inputs.Inputs.{Inputs}
 use Rattle.timer.specs.declared.state.TimerState.{TimerState}
-use Rattle.timer.proofs.Accepted.{accepted-by-rule, ruledBy, run-goes-by-rule}
+use Rattle.timer.proofs.Accepted.{accepted-gives-ruled, ruledBy, run-goes-by-rule}
+use Rattle.timer.proofs.Accepted.Rule.{hold}
 use Rattle.timer.proofs.Runs.{outputs, stateAfter, WithoutReset, holdBy, lastInput, onThroughout}
 
 -- as many ticks as the count says
@@ -90,6 +90,6 @@ hold-on-for-d-ticks-from-a-rise d state rise later fits count off on none long =
       on-throughout = run .outputs-same ∙ rw (tick, then .stays-on);
       count-is-0 = ap (λ s. s .count) (run .state-same) ∙ spent;
       then-on-at-a-rise = λ next unreset.
-          rw (run .state-same, unreset, accepted-by-rule (hold (inputOf next)) after d (run .leaves-valid) fits)
+          rw (run .state-same, unreset, accepted-gives-ruled after d (ruledBy hold d after next) (run .leaves-valid) fits)
           (at-0-on-at-a-rise d after next spent above ∙ ap (λ previous. inputOf next && not previous) remembered);
     }

@@ -12,11 +12,11 @@ use Rattle.checks.proofs.Tests.{leb-iff}
 use Rattle.timer.specs.Answer.{accepted}
 use Rattle.timer.specs.Inputs.{inputOf}
 use Rattle.timer.specs.Rules.{resetDelayRule}
-use Rattle.timer.specs.Rules.Rule.{resetDelay}
 use Rattle.timer.specs.State.{delayLimit, freshTimer, validTimer, withCount}
 use Rattle.timer.specs.declared.inputs.Inputs.{Inputs}
 use Rattle.timer.specs.declared.state.TimerState.{TimerState}
 use Rattle.timer.proofs.Accepted.{ruledBy, run-goes-by-rule}
+use Rattle.timer.proofs.Accepted.Rule.{resetDelay}
 use Rattle.timer.proofs.Runs.{outputs, WithoutReset, resetDelayBy, eachTick, oneOfLatestOn, AllOff, onForFirst}
 
 -- ---- after the input

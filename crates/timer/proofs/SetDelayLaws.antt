@@ -8,11 +8,11 @@ use mathlib.Core.Path.{_≡_, refl, _∙_}
 use borrow.Author.Tests.{leb-true}
 use lib.Dec.{leb}
 use Rattle.timer.specs.Inputs.{inputOf}
-use Rattle.timer.specs.Rules.Rule.{setDelay}
 use Rattle.timer.specs.State.{countLimit, delayLimit, freshTimer}
 use Rattle.timer.specs.declared.inputs.Inputs.{Inputs}
 use Rattle.timer.specs.declared.state.TimerState.{TimerState}
 use Rattle.timer.proofs.Accepted.{ruledBy, run-goes-by-rule}
+use Rattle.timer.proofs.Accepted.Rule.{setDelay}
 use Rattle.timer.proofs.Counting.{onInARow, counted-in-a-row, over-d-is-latest-on}
 use Rattle.timer.proofs.Runs.{outputs, WithoutReset, setDelayBy, latestOn, eachTick}
 

@@ -4,16 +4,20 @@ use mathlib.Core.Bool.{Bool, true, false, not, _&&_, and-true, and-false}
 use mathlib.Core.List.{List, [], _∷_, map}
 use mathlib.Core.Path.{_≡_, refl, _∙_}
 use Rattle.timer.specs.Inputs.{inputOf}
-use Rattle.timer.specs.Rules.Rule.{hold}
+use Rattle.timer.specs.Rules.{holdRule}
 use Rattle.timer.specs.State.{freshTimer}
 use Rattle.timer.specs.Timer.{timerAnswer}
+use Rattle.timer.specs.declared.answer.Timed.{Timed}
 use Rattle.timer.specs.declared.inputs.Inputs.{Inputs}
 use Rattle.timer.specs.declared.state.TimerState.{TimerState}
 use Rattle.timer.proofs.Runs.{outputs, WithoutReset, setDelayBy, holdBy, latestOn, eachTick}
 use Rattle.timer.proofs.SetDelayLaws.{set-delay-on-exactly-when-last-d+1-on}
 
+abbrev OffAt0 : Timed → Type 0
+OffAt0 timed = (timed .on ≡ false) × (timed .state .count ≡ 0)
+
 hold-0-tick : (reset input : Bool) (state : TimerState) → state .count ≡ 0
-    → (timerAnswer (hold input) reset state 0 .on ≡ false) × (timerAnswer (hold input) reset state 0 .state .count ≡ 0)
+    → OffAt0 (timerAnswer reset state 0 (holdRule 0 input state))
 unfolding timerAnswer
 hold-0-tick true input state e = rw e (refl, refl)
 hold-0-tick false input state e = rw (e, and-false (input && not (state .previous))) (refl, refl)

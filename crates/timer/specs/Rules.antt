@@ -52,16 +52,3 @@ latching latch state = accepted (withLatch latch state) latch
 abbrev pub flipFlopRule : ℕ → Bool → Bool → TimerState → Timed
 flipFlopRule d set trip state =
     latching (latched d trip (counted set (state .count)) (state .latch)) (withCount (counted set (state .count)) state)
-
--- the four, each with its input; the flip-flop has a set and a trip input
-pub data Rule : Type 0 where
-  setDelay : Bool → Rule
-  hold : Bool → Rule
-  resetDelay : Bool → Rule
-  flipFlop : Bool → Bool → Rule
-
-abbrev pub byRule : Rule → ℕ → TimerState → Timed
-byRule (setDelay input) d state = setDelayRule d input state
-byRule (hold input) d state = holdRule d input state
-byRule (resetDelay input) d state = resetDelayRule d input state
-byRule (flipFlop set trip) d state = flipFlopRule d set trip state
