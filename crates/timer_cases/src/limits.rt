@@ -42,7 +42,6 @@ fn limit(kind: Kind, count: u32, d: u32) {
 }
 
 fn each_limit(kind: Kind) {
-    limit(kind, 60000, 60000);
     limit(kind, 60001, 60000);
     limit(kind, 60002, 60000);
     limit(kind, 60001, 60001);

@@ -1,7 +1,6 @@
 // How the parts of a line are written.
 use libc::STDOUT_FILENO;
 use timer::Combination;
-use timer::Timed;
 use timer::TimerState;
 
 pub(crate) fn say(text: &[u8]) {
@@ -32,13 +31,4 @@ pub(crate) fn say_combination(combination: Combination) {
         Combination::And => say(b", and"),
         Combination::OrAnd => say(b", or-and"),
     }
-}
-
-// The output of one tick; r where it was refused.
-pub(crate) fn say_tick(timed: Timed) {
-    if timed.refusal != 0 {
-        say(b"r");
-        return;
-    }
-    say_bit(timed.on);
 }

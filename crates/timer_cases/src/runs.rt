@@ -10,7 +10,6 @@ use crate::line::say_bit;
 use crate::line::say_combination;
 use crate::line::say_number;
 use crate::line::say_state;
-use crate::line::say_tick;
 use timer::Combination;
 use timer::TimerState;
 
@@ -33,7 +32,7 @@ fn say_load(load: Load) {
 fn step(kind: Kind, load: Load, d: u32, place: Place) -> Place {
     let x = next(place.x);
     let timed = tick(kind, place.state, d, drawn(load, x));
-    say_tick(timed);
+    say_bit(timed.on);
     let state = timed.state;
     Place { state, x }
 }

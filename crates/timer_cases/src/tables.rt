@@ -3,8 +3,8 @@ use crate::kinds::Kind;
 use crate::kinds::say_begin;
 use crate::kinds::tick;
 use crate::line::say;
+use crate::line::say_bit;
 use crate::line::say_combination;
-use crate::line::say_tick;
 use timer::Combination;
 use timer::Inputs;
 use timer::TimerState;
@@ -23,7 +23,8 @@ fn inputs_of(combination: Combination, n: u32) -> Inputs {
 fn all_inputs(kind: Kind, combination: Combination, d: u32, from: TimerState) {
     let mut n = 0;
     while n < 16 {
-        say_tick(tick(kind, from, d, inputs_of(combination, n)));
+        let timed = tick(kind, from, d, inputs_of(combination, n));
+        say_bit(timed.on);
         n += 1;
     }
 }

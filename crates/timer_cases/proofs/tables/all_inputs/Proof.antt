@@ -20,8 +20,8 @@ inputs-of-requires c κs = search needs
 tick-requires : tie.Need-tick-requires Inv-loop μ-loop
 tick-requires c κs = search needs
 
-say-tick-requires : tie.Need-say-tick-requires Inv-loop μ-loop
-say-tick-requires c κs = search needs
+say-bit-requires : tie.Need-say-bit-requires Inv-loop μ-loop
+say-bit-requires c κs = search needs
 
 add-n : tie.Need-add-n Inv-loop μ-loop
 add-n c = search needs
@@ -44,7 +44,7 @@ all-inputs-spec =
     loop-holds
     inputs-of-requires
     tick-requires
-    say-tick-requires
+    say-bit-requires
     add-n
     loop-less
     loop-again
