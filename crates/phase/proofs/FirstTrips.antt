@@ -1,11 +1,11 @@
 -- The first of n equal ticks with the phase trip on, in closed form.
 -- Assumes nothing.
 use Prim.Native.Nat.{ℕ, zero, suc, _+_, _-_, _*_, _≤_, _<_, min, max}
-use native.Mathlib.Nat.{suc-mul, div-lt-iff-lt-mul, div-zero, mul-zero, lt-of-not-le, not-le-of-lt, not-suc-le-zero}
+use native.Mathlib.Nat.{suc-mul, div-lt-iff-lt-mul, div-zero, mul-zero, lt-of-not-le, not-le-of-lt}
 use native.Mathlib.Omega.{arith}
 use mathlib.Core.Bool.{Bool, true, false, cond, _&&_}
 use mathlib.Core.Path.{_≡_, refl, ap, sym, _∙_}
-use borrow.Author.Tests.{leb-true, leb-false, le-leb, lt-leb, ltb-true, ltb-false}
+use borrow.Author.Tests.{leb-true, leb-false, lt-leb, ltb-true, ltb-false}
 use lib.Dec.{leb, ltb, eqb, eqb·suc-zero}
 use Rattle.checks.proofs.Tests.{leb-iff}
 use Rattle.phase.specs.declared.operation.Kind.{Kind}
@@ -15,12 +15,13 @@ use Rattle.phase.specs.declared.operation.Timing.the-variants.{Definite,
 use Rattle.phase.specs.declared.settings.Settings.{Settings}
 use Rattle.phase.specs.declared.state.PhaseState.{PhaseState}
 use Rattle.phase.specs.device.Closed.{advanceBy, advanced, oneOf, waitFor, turns, firstFull, firstDue, firstTripBy}
-use Rattle.phase.specs.Jump.{stateAfter, firstOf, orLast, tripAt, firstTrip}
+use Rattle.phase.specs.Jump.{stateAfter, firstOf, tripAt, firstTrip}
 use Rattle.phase.specs.Operation.{kindOf}
 use Rattle.phase.specs.Settings.{tripLevel}
 use Rattle.phase.specs.device.Ranges.{InRange}
 use Rattle.phase.specs.State.{runLimit}
 use Rattle.phase.specs.Tick.{gainAt, started, nextState, phaseTrip, due, tripBy}
+use Rattle.phase.proofs.FirstOfLaws.{first-same, first-none, first-at}
 use Rattle.phase.proofs.Walk.{started-stays, ticks-closed}
 
 -- ---- tests
@@ -32,34 +33,6 @@ both-iff a b c d m k f g h = go (leb a b) refl
     go : (t : Bool) → leb a b ≡ t → t && leb c d ≡ leb m k
     go true q = leb-iff c d m k (λ e. f (leb-true a b q) e) h
     go false q = sym (lt-leb m k (lt-of-not-le (λ e. not-le-of-lt (leb-false a b q) (g e))))
-
--- ---- the first of 1, 2 .. n
-
--- only the numbers above 0 matter
-pub first-same : (t u : ℕ → Bool) (n : ℕ) → ((k : ℕ) → t (suc k) ≡ u (suc k)) → firstOf t n ≡ firstOf u n
-unfolding firstOf
-first-same t u zero e = refl
-first-same t u (suc n) e = rw (first-same t u n e, e n)
-
-first-none : (t : ℕ → Bool) (n : ℕ) → ((k : ℕ) → t (suc k) ≡ false) → firstOf t n ≡ 0
-unfolding firstOf
-first-none t zero e = refl
-first-none t (suc n) e = rw (first-none t n e, e n)
-
-last-or-none : (b : Bool) (x y : ℕ) → (b ≡ true → x ≡ y) → cond b x 0 ≡ cond b y 0
-last-or-none true x y f = f refl
-last-or-none false x y f = refl
-
--- a test that holds from the number m on
-first-at : (t : ℕ → Bool) (m n : ℕ) → 0 < m → ((k : ℕ) → t (suc k) ≡ leb m (suc k)) → firstOf t n ≡ oneOf n m
-unfolding firstOf
-first-at t zero n h e = absurd (not-suc-le-zero h)
-first-at t (suc m) zero h e = rw (lt-leb (suc m) 0 (omega arith))
-first-at t (suc m) (suc n) h e = rw (first-at t (suc m) n h e, e n) (go (leb (suc m) n) refl)
-  where
-    go : (b : Bool) → leb (suc m) n ≡ b → orLast (cond b (suc m) 0) (suc n) (leb (suc m) (suc n)) ≡ oneOf (suc n) (suc m)
-    go true q = rw (le-leb (suc m) (suc n) (omega (arith, leb-true (suc m) n q)))
-    go false q = last-or-none (leb (suc m) (suc n)) (suc n) (suc m) (λ r. omega (arith, leb-false (suc m) n q, leb-true (suc m) (suc n) r))
 
 -- ---- from which tick on a sum is full
 

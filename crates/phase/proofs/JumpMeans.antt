@@ -10,7 +10,7 @@ use Rattle.phase.specs.declared.jump.TripTick.{TripTick}
 use Rattle.phase.specs.declared.jump.TripTick.the-variants.{At, None}
 use Rattle.phase.specs.declared.settings.Settings.{Settings}
 use Rattle.phase.specs.declared.state.PhaseState.{PhaseState}
-use Rattle.phase.specs.Jump.{firstTrip, tripTick, tripNumber, jumpRefusal, jumpOf, refusedJump, jumpAnswer, jumpNumber}
+use Rattle.phase.specs.Jump.{firstTrip, tripTick, tripNumber, jumpRefusal, refusedJump, jumpAnswer, jumpNumber}
 use Rattle.phase.specs.Operation.{kindOf}
 use Rattle.phase.specs.Tick.{started}
 use Rattle.phase.specs.device.Closed.{firstTripBy}

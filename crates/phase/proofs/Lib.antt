@@ -1,5 +1,6 @@
 pub mod PaceLaws
 pub mod Walk
+pub mod FirstOfLaws
 pub mod FirstTrips
 pub mod JumpMeans
 pub mod Accepted

@@ -1,20 +1,18 @@
 -- Demand 3, the quick sum: a jump over many equal ticks agrees with as many calls of `tick`.
 -- Assumes nothing.
-use Prim.Native.Nat.{ℕ, zero, suc, _≤_, _<_}
-use native.Mathlib.Nat.{suc-ne-zero, eq-or-lt-of-le, eq-zero-or-pos, le-antisymm, lt-of-not-le}
+use Prim.Native.Nat.{ℕ, zero, suc}
 use native.Mathlib.Omega.{arith}
-use mathlib.Core.Bool.{Bool, true, false, false≢true}
-use mathlib.Core.Logic.{⊎-elim}
+use mathlib.Core.Bool.{Bool, false}
 use mathlib.Core.Path.{_≡_, refl, sym, _∙_, ap}
 use Rattle.phase.specs.declared.jump.Jumped.{Jumped}
 use Rattle.phase.specs.declared.jump.TripTick.the-variants.{At, None}
 use Rattle.phase.specs.declared.settings.Settings.{Settings}
 use Rattle.phase.specs.declared.state.PhaseState.{PhaseState}
 use Rattle.phase.specs.declared.tick.Ticked.{Ticked}
-use Rattle.phase.specs.Jump.{stateAfter, firstOf, orLast, tripAt, firstTrip, tripTick, jumpRefusal, jumpAnswer}
+use Rattle.phase.specs.Jump.{stateAfter, firstOf, tripAt, firstTrip, tripTick, jumpRefusal, jumpAnswer}
 use Rattle.phase.specs.Tick.{tickRefusal, tickAnswer}
 use Rattle.phase.proofs.Accepted.{tick-accepted, jump-accepted, jump-tick-accepted}
-use Rattle.phase.proofs.FirstTrips.{first-same}
+use Rattle.phase.proofs.FirstOfLaws.{FirstAt, Never, first-same, none-means, first-means, first-is, never-is}
 use Rattle.phase.proofs.JumpMeans.{trip-of, named, unnamed, above-none}
 use Rattle.phase.proofs.KeepsValid.{ticks-keep-accepted}
 
@@ -30,17 +28,6 @@ abbrev pub callTrips : Settings → ℕ → PhaseState → ℕ → Bool
 callTrips settings g state zero = false
 callTrips settings g state (suc k) = tickAnswer settings (callsAfter settings g k state) g .trip
 
--- t is one of 1, 2 .. n, the test holds there, and at none before
-pub record FirstAt (test : ℕ → Bool) (n t : ℕ) : Type 0 where
-  pub low : 0 < t
-  pub high : t ≤ n
-  pub holds : test t ≡ true
-  pub before : (k : ℕ) → 0 < k → k < t → test k ≡ false
-
--- the test holds at none of 1, 2 .. n
-abbrev pub Never : (ℕ → Bool) → ℕ → Type 0
-Never test n = (k : ℕ) → 0 < k → k ≤ n → test k ≡ false
-
 -- an accepted jump: no call is refused, it ends in the state that the calls end in, it names tick t exactly if t is the first
 -- call whose trip is on, and none exactly if no call of the count has it on
 pub record QuickSum (settings : Settings) (state : PhaseState) (g count : ℕ) : Type 0 where
@@ -50,53 +37,6 @@ pub record QuickSum (settings : Settings) (state : PhaseState) (g count : ℕ) :
   pub first : (t : ℕ) → FirstAt (callTrips settings g state) count t → jumpAnswer settings state g count .trip ≡ At t
   pub none : jumpAnswer settings state g count .trip ≡ None → Never (callTrips settings g state) count
   pub never : Never (callTrips settings g state) count → jumpAnswer settings state g count .trip ≡ None
-
--- ---- the first of 1, 2 .. n
-
--- 0: the test holds at none
-none-before : (found k : ℕ) (b : Bool) → orLast found (suc k) b ≡ 0 → (found ≡ 0) × (b ≡ false)
-none-before zero k true e = absurd (suc-ne-zero k e)
-none-before zero k false e = (refl, refl)
-none-before (suc found) k b e = absurd (suc-ne-zero found e)
-
-none-means : (test : ℕ → Bool) (n : ℕ) → firstOf test n ≡ 0 → (k : ℕ) → 0 < k → k ≤ n → test k ≡ false
-unfolding firstOf
-none-means test zero e k low high = absurd (omega arith)
-none-means test (suc n) e k low high =
-    let o = none-before (firstOf test n) n (test (suc n)) e in
-    ⊎-elim (λ q. rw q (o .1)) (λ q. none-means test n (o .0) k low (omega arith)) (eq-or-lt-of-le high)
-
--- above 0: the first at which it holds
-found-means : (test : ℕ → Bool) (n t found : ℕ) (b : Bool) → firstOf test n ≡ found → test (suc n) ≡ b → (0 < found → FirstAt test n found) → 0 < t → orLast found (suc n) b ≡ t → FirstAt test (suc n) t
-found-means test n t zero true ef eb earlier h e =
-    rw (sym e) (record { low = omega arith; high = omega arith; holds = eb; before = λ k a l. none-means test n ef k a (omega arith) })
-found-means test n t zero false ef eb earlier h e = absurd (omega arith)
-found-means test n t (suc found) b ef eb earlier h e =
-    let i = earlier (omega arith) in
-    rw (sym e) (record { low = i .low; high = omega arith; holds = i .holds; before = i .before })
-
-first-means : (test : ℕ → Bool) (n t : ℕ) → 0 < t → firstOf test n ≡ t → FirstAt test n t
-unfolding firstOf
-first-means test zero t h e = absurd (omega arith)
-first-means test (suc n) t h e =
-    found-means test n t (firstOf test n) (test (suc n)) refl refl (λ a. first-means test n (firstOf test n) a refl) h e
-
-not-later : {test : ℕ → Bool} {n t u : ℕ} → FirstAt test n t → FirstAt test n u → t ≤ u
-not-later {test} {n} {t} {u} a b =
-    omega (arith, lt-of-not-le {n = suc u} {m = t} (λ h. false≢true (sym (a .before u (b .low) h) ∙ b .holds)))
-
-first-is : (test : ℕ → Bool) (n t : ℕ) → FirstAt test n t → firstOf test n ≡ t
-first-is test n t f =
-    ⊎-elim
-    (λ e. absurd (false≢true (sym (none-means test n e t (f .low) (f .high)) ∙ f .holds)))
-    (λ p. let g = first-means test n (firstOf test n) p refl in le-antisymm (not-later g f) (not-later f g))
-    (eq-zero-or-pos (firstOf test n))
-
-never-is : (test : ℕ → Bool) (n : ℕ) → Never test n → firstOf test n ≡ 0
-never-is test n h =
-    ⊎-elim (λ e. e)
-    (λ p. let g = first-means test n (firstOf test n) p refl in absurd (false≢true (sym (h (firstOf test n) (g .low) (g .high)) ∙ g .holds)))
-    (eq-zero-or-pos (firstOf test n))
 
 -- ---- the calls are the walked ticks
 

@@ -26,7 +26,7 @@ gainAt settings g = gainOf (settings .operation) (ratioOf g (settings .«start_c
 abbrev pub lossAt : Settings → ℕ → ℕ
 lossAt settings g = lossOf (settings .operation) (ratioOf g (settings .«start_current»))
 
--- 2. "Started exactly when g is greater than 100 x s."
+-- 2. "Started exactly when g is greater than 100 x s." It is asked of settings, state and sample, as each rule is.
 unfoldable pub started : Settings → PhaseState → ℕ → Bool
 started settings state g = ltb (100 * settings .«start_current») g
 
