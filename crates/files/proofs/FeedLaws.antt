@@ -7,11 +7,12 @@ use Prim.Native.Nat.{ℕ, _+_, _≤_, _<_}
 use native.Mathlib.Numerals.{add-one}
 use native.Mathlib.Omega.{arith}
 use lib.ListN.{length, getD, take, set, length-append, length-set}
-use lib.Seq.{sets, take-suc, take-all}
+use lib.Seq.{sets, length-sets, take-suc, take-all}
 use Rattle.files.specs.declared.progress.Progress.{Progress}
 use Rattle.files.specs.declared.progress.Noted.{Noted}
 use Rattle.files.specs.declared.replay.Replay.{Replay}
 use Rattle.text.specs.declared.lines.Closer.the-variants.{CrLf}
+use Rattle.text.specs.declared.lines.Cut.{Cut}
 use Rattle.text.specs.declared.lines.Cut.the-variants.{Held, Closed, TooLong}
 use Rattle.files.specs.Progress.{afterLine, wroteLine, refuse}
 use Rattle.files.specs.device.Calls.{notedOf}
@@ -20,14 +21,17 @@ use Rattle.text.proofs.StoreLaws.{sets-append}
 use Rattle.text.proofs.CutLaws.{next-length, held-not-full}
 use Rattle.files.proofs.PortionLaws.{next-held}
 
+pub stored-length : (out out' xs : List ℕ) (at n : ℕ) → out' ≡ sets out at xs → length out ≡ n → length out' ≡ n
+stored-length out out' xs at n e h = rw (e, length-sets) h
+
 pub same-room : (held held' : List ℕ) (n b : ℕ) → held' ≡ set held n b → length held ≡ lineLimit → length held' ≡ lineLimit
 same-room held held' n b e h = rw (e, length-set) h
 
 -- a line that is still held is not too long
-pub held-short : (s : Replay) (b : ℕ) → s .count + 1 ≤ lineLimit → length (s .held) ≡ lineLimit → Held ≡ nextCut s b → s .count + 1 < lineLimit
-held-short s b short room e =
+pub held-short : (s : Replay) (b : ℕ) → s .count + 1 ≤ lineLimit → length (s .held) ≡ lineLimit → (cut : Cut) → cut ≡ Held → cut ≡ nextCut s b → s .count + 1 < lineLimit
+held-short s b short room cut told is =
     let n = next-length CrLf lineLimit (s .count) b (s .held) (omega arith) in
-    let k = held-not-full CrLf lineLimit (nextLine s b) (sym e) in
+    let k = held-not-full CrLf lineLimit (nextLine s b) (sym is ∙ told) in
     omega (arith, k, n)
 
 -- ---- a portion with one more at the end
@@ -93,24 +97,27 @@ module _ (r : Replay) (p before : List ℕ) (i : ℕ) (s : Replay) (at : ℕ) (o
       same-line : line ≡ nextLine s byte
       same-line = ap (take (s .count + 1)) q ∙ next-held s byte short room
 
-      pub reached-closed : (t : Noted) (out' : List ℕ) → Closed ≡ nextCut s byte → t ≡ notedOf (afterLine (s .progress) line) (wroteLine (s .progress) line) at
+      pub reached-closed : (cut : Cut) → cut ≡ Closed → cut ≡ nextCut s byte → (t : Noted) (out' : List ℕ) → t ≡ notedOf (afterLine (s .progress) line) (wroteLine (s .progress) line) at
           → out' ≡ sets out at (wroteLine (s .progress) line)
           → Reached r p before (i + 1) (record { progress = t .progress; held = held; count = 0 }) (t .written) out'
       unfolding fedByteBy wroteByteBy
-      reached-closed t out' e f g =
+      reached-closed cut told is t out' f g =
+          let e : Closed ≡ nextCut s byte = sym told ∙ is in
           reached-byte (record { progress = t .progress; held = held; count = 0 }) (t .written) out'
           (rw (← e, f, same-line, q)) (rw (← e, f, same-line)) (rw (← e, ← same-line) g)
 
-    pub reached-filled : (x : Progress) → TooLong ≡ nextCut s byte → x ≡ refuse (s .progress)
+    pub reached-filled : (cut : Cut) → cut ≡ TooLong → cut ≡ nextCut s byte → (x : Progress) → x ≡ refuse (s .progress)
         → Reached r p before (i + 1) (record { progress = x; held = held; count = 0 }) at out
     unfolding fedByteBy wroteByteBy
-    reached-filled x e g =
+    reached-filled cut told is x g =
+        let e : TooLong ≡ nextCut s byte = sym told ∙ is in
         let z : at ≡ at + 0 = omega arith in
         reached-byte (record { progress = x; held = held; count = 0 }) at out (rw (← e, g, q)) (rw (← e) z) (rw (← e))
 
-    pub reached-held : Held ≡ nextCut s byte → Reached r p before (i + 1) (record { progress = s .progress; held = held; count = s .count + 1 }) at out
+    pub reached-held : (cut : Cut) → cut ≡ Held → cut ≡ nextCut s byte → Reached r p before (i + 1) (record { progress = s .progress; held = held; count = s .count + 1 }) at out
     unfolding fedByteBy wroteByteBy
-    reached-held e =
+    reached-held cut told is =
+        let e : Held ≡ nextCut s byte = sym told ∙ is in
         let z : at ≡ at + 0 = omega arith in
         reached-byte (record { progress = s .progress; held = held; count = s .count + 1 }) at out (rw (← e, q)) (rw (← e) z) (rw (← e))
 

@@ -1,7 +1,7 @@
 -- A line's turn of the replay: from what the code has at hand to what the definitions say.
 -- Assumes nothing.
 use mathlib.Core.Path.{_≡_, sym, ap, _∙_}
-use mathlib.Core.List.{List, []}
+use mathlib.Core.List.{List}
 use Prim.Native.Nat.{ℕ, _+_}
 use native.Mathlib.Omega.{arith}
 use lib.ListN.{length}
@@ -24,15 +24,15 @@ use Rattle.files.specs.device.Calls.{notedOf}
 -- the tick of an accepted row
 module _ (p : Progress) (t : RelayTicked) where
   module _ (e : t .refusal ≡ 0) where
-    pub tick-wrote : wroteTick p t ≡ changeOf (p .done + 1) (t .outputs) (p .outputs)
-    tick-wrote = rw (eq-eqb (t .refusal) 0 e)
+    pub tick-output : (out out' : List ℕ) (at : ℕ) → out' ≡ sets out at (changeOf (p .done + 1) (t .outputs) (p .outputs)) → out' ≡ sets out at (wroteTick p t)
+    tick-output out out' at h = rw (eq-eqb (t .refusal) 0 e) h
 
     pub tick-noted : (end at : ℕ) → end ≡ at + length (changeOf (p .done + 1) (t .outputs) (p .outputs)) → record { progress = rowDone p t; written = end } ≡ notedOf (afterTick p t) (wroteTick p t) at
     tick-noted end at h = rw (eq-eqb (t .refusal) 0 e, h)
 
   module _ (e : t .refusal ≡ 0 → ⊥) where
-    pub refused-tick-quiet : wroteTick p t ≡ []
-    refused-tick-quiet = rw (ne-eqb (t .refusal) 0 e)
+    pub refused-tick-quiet : (out : List ℕ) (at : ℕ) → out ≡ sets out at (wroteTick p t)
+    refused-tick-quiet out at = rw (ne-eqb (t .refusal) 0 e)
 
     pub refused-tick-noted : (s : Progress) (at : ℕ) → s ≡ stopped (t .refusal) p → record { progress = s; written = at } ≡ notedOf (afterTick p t) (wroteTick p t) at
     refused-tick-noted s at h =
@@ -40,8 +40,8 @@ module _ (p : Progress) (t : RelayTicked) where
         rw (ne-eqb (t .refusal) 0 e, h, z)
 
 module _ (p : Progress) (a : RowRead) (x : Row) (t : RelayTicked) (q : a ≡ Accepted x) (e : t ≡ ticked p x) where
-  pub accepted-wrote : wroteTick p t ≡ changed p a
-  accepted-wrote = ap (wroteTick p) e ∙ sym (ap (changed p) q)
+  pub accepted-output : (out out' : List ℕ) (at : ℕ) → out' ≡ sets out at (wroteTick p t) → out' ≡ sets out at (changed p a)
+  accepted-output out out' at h = h ∙ ap (sets out at) (ap (wroteTick p) e ∙ sym (ap (changed p) q))
 
   pub accepted-noted : (r : Noted) (at : ℕ) → r ≡ notedOf (afterTick p t) (wroteTick p t) at → r ≡ notedOf (stepped p a) (changed p a) at
   accepted-noted r at h =
@@ -80,9 +80,9 @@ module _ (p : Progress) (l : List ℕ) (at : ℕ) where
   stopped-quiet out n e = ap (λ (g : Stage). sets out at (wroteBy g p l)) (sym e)
 
   module _ (e : p .stage ≡ Running) where
-    pub running-wrote : wroteRow p l ≡ wroteLine p l
+    pub running-output : (out out' : List ℕ) → out' ≡ sets out at (wroteRow p l) → out' ≡ sets out at (wroteLine p l)
     unfolding wroteBy
-    running-wrote = ap (λ (g : Stage). wroteBy g p l) (sym e)
+    running-output out out' h = h ∙ ap (λ (g : Stage). sets out at (wroteBy g p l)) (sym e)
 
     pub running-noted : (r : Noted) → r ≡ notedOf (afterRow p l) (wroteRow p l) at → r ≡ notedOf (afterLine p l) (wroteLine p l) at
     unfolding afterBy wroteBy

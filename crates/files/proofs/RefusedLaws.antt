@@ -27,7 +27,7 @@ pub record Misshapen (l : List ℕ) : Type 0 where
   pub no-row : rightShape rowWidths l ≡ false
   pub no-settings : rightShape settingsWidths l ≡ false
 
--- one of more than 45 bytes
+-- one that is too long
 pub long-misshapen : (l : List ℕ) → lineLimit ≤ length l → Misshapen l
 long-misshapen l h = record {
   no-row = not-true (rightShape rowWidths l) (λ e. omega (arith, shape-most rowWidths l (omega arith) e));

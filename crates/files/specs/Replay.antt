@@ -1,6 +1,6 @@
--- The replay program: what it writes of its whole input (01, 'Rows and the replay program'), and what feeding it by portions
--- answers. The law `replay-of-calls` says that the bytes so written, one after the other, are those of `replayOf`, however
--- the input is cut.
+-- The replay program: what it writes of its whole input (01, 'Rows and the replay program'), and what feeding it by
+-- portions answers. The law `replay-of-calls` says that the bytes so written, one after the other, are those of
+-- `replayOf`, however the input is cut.
 use mathlib.Core.Bool.{Bool, true, false, _&&_}
 use mathlib.Core.List.{List, [], _∷_, _++_}
 use Prim.Native.Nat.{ℕ, _+_}
@@ -52,10 +52,13 @@ nextLine r b = heldLine r ++ (b ∷ [])
 abbrev pub nextCut : Replay → ℕ → Cut
 nextCut r b = cutOf CrLf lineLimit (nextLine r b)
 
+abbrev pub withByte : Replay → ℕ → Progress → ℕ → Replay
+withByte r b p count = record { progress = p; held = set (r .held) (r .count) b; count = count }
+
 unfoldable pub fedByteBy : Cut → Replay → ℕ → Replay
-fedByteBy Closed r b = record { progress = afterLine (r .progress) (nextLine r b); held = set (r .held) (r .count) b; count = 0 }
-fedByteBy TooLong r b = record { progress = refuse (r .progress); held = set (r .held) (r .count) b; count = 0 }
-fedByteBy Held r b = record { progress = r .progress; held = set (r .held) (r .count) b; count = r .count + 1 }
+fedByteBy Closed r b = withByte r b (afterLine (r .progress) (nextLine r b)) 0
+fedByteBy TooLong r b = withByte r b (refuse (r .progress)) 0
+fedByteBy Held r b = withByte r b (r .progress) (r .count + 1)
 
 abbrev pub fedByte : Replay → ℕ → Replay
 fedByte r b = fedByteBy (nextCut r b) r b

@@ -121,8 +121,8 @@ fn takes_portion(held: usize, portion: &[u8], room: usize) -> bool
     portion_room(held, portion) <= room
 }
 
-// Feeds a portion of the input: what it writes stands at the front of `out`, and the other bytes of `out` stay. An `out` of
-// `portion_room` always suffices, so one with LONGEST_LINE bytes more than the portion.
+// Feeds a portion of the input: what it writes stands at the front of `out`, and the other bytes of `out` stay. An `out`
+// of `portion_room` always suffices, so one with LONGEST_LINE bytes more than the portion.
 pub fn feed(state: Replay, portion: &[u8], out: &mut [u8]) -> Fed
     ensures answer { λ r. do
       room ← ⟦out.len()⟧ .entry

@@ -1,5 +1,5 @@
--- A device of code and proofs: what the functions inside the crate hand on, and what every state keeps that comes from the
--- fresh one.
+-- A device of code and proofs: what the functions inside the crate hand on, and what every state keeps that comes from
+-- the fresh one.
 use mathlib.Core.Path.{_≡_}
 use mathlib.Core.Bool.{true, false}
 use mathlib.Core.List.{List}
@@ -18,7 +18,8 @@ notedOf p w at = record { progress = p; written = at + length w }
 
 -- a portion that was taken
 abbrev pub takenWith : Progress → List ℕ → ℕ → ℕ → Fed
-takenWith p held count written = record { taken = true; state = record { progress = p; held = held; count = count }; written = written }
+takenWith p held count written =
+    record { taken = true; state = record { progress = p; held = held; count = count }; written = written }
 
 -- the line held is shorter than a line too long, and is not closed
 pub record Sound (r : Replay) : Type 0 where

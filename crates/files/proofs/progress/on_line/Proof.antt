@@ -1,9 +1,7 @@
 -- `files::progress::on_line` meets its contract: by the stage.
 -- Assumes nothing.
-use mathlib.Core.Path.{ap, _∙_}
 use native.Mathlib.Omega.{arith}
-use lib.Seq.{sets}
-use Rattle.files.proofs.ProgressLaws.{opening-noted, opening-quiet, stopped-noted, stopped-quiet, running-noted, running-wrote}
+use Rattle.files.proofs.ProgressLaws.{opening-noted, opening-quiet, stopped-noted, stopped-quiet, running-noted, running-output}
 use borrow.Author.Needs.{needs}
 use Rattle.files.proofs.progress.on_line.Statement.{statement}
 use Rattle.files.proofs.progress.on_line.Tie as tie
@@ -40,7 +38,7 @@ returns-2 c =
     let e = c .before .before .before .before .enum-told2 .given .1 in
     let f = c .before .before .on-row .ensures in (
       running-noted (a .p) (a .line .now) (a .at) e _ (f .0),
-      (f .1 .0 ∙ ap (sets (a .out .now) (a .at)) (running-wrote (a .p) (a .line .now) (a .at) e), f .1 .1),
+      (running-output (a .p) (a .line .now) (a .at) e (a .out .now) (c .before .before .on-row .last .1 .1 .0) (f .1 .0), f .1 .1),
     )
 
 returns-3 : tie.Need-returns-3

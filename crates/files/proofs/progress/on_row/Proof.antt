@@ -1,11 +1,10 @@
 -- `files::progress::on_row` meets its contract: by the answer of the reader.
 -- Assumes nothing.
-use mathlib.Core.Path.{sym, ap, _∙_}
+use mathlib.Core.Path.{sym, _∙_}
 use native.Mathlib.Omega.{arith}
-use lib.Seq.{sets}
 use Rattle.files.specs.Row.{rowAnswer}
 use Rattle.files.proofs.RowLaws.{accepted-row}
-use Rattle.files.proofs.ProgressLaws.{accepted-wrote, accepted-noted, refused-noted, refused-quiet}
+use Rattle.files.proofs.ProgressLaws.{accepted-output, accepted-noted, refused-noted, refused-quiet}
 use borrow.Author.Needs.{needs}
 use Rattle.files.proofs.progress.on_row.Statement.{statement}
 use Rattle.files.proofs.progress.on_row.Tie as tie
@@ -47,7 +46,7 @@ returns c =
     let k = accepted-row (a .line .now) (a .p .done) x q in (
       accepted-noted (a .p) r x (t .result) q (t .ensures) _ (a .at) (f .0),
       (
-        f .1 .0 ∙ ap (sets (a .out .now) (a .at)) (accepted-wrote (a .p) r x (t .result) q (t .ensures)),
+        accepted-output (a .p) r x (t .result) q (t .ensures) (a .out .now) (c .before .before .on-tick .last .1 .1 .0) (a .at) (f .1 .0),
         omega (arith, f .1 .1),
       ),
     )

@@ -1,9 +1,7 @@
 -- `files::progress::on_tick` meets its contract: by whether the tick is accepted.
 -- Assumes nothing.
-use mathlib.Core.Path.{sym, ap, _∙_}
 use native.Mathlib.Omega.{arith}
-use lib.Seq.{sets}
-use Rattle.files.proofs.ProgressLaws.{tick-wrote, tick-noted, refused-tick-quiet, refused-tick-noted}
+use Rattle.files.proofs.ProgressLaws.{tick-output, tick-noted, refused-tick-quiet, refused-tick-noted}
 use borrow.Author.Needs.{needs}
 use Rattle.files.proofs.progress.on_tick.Statement.{statement}
 use Rattle.files.proofs.progress.on_tick.Tie as tie
@@ -16,7 +14,7 @@ returns c =
     let a = c .before .before .before .before .args in
     let e = c .before .if1 .taken in (
       refused-tick-noted (a .p) (a .t) e (c .stop .result) (a .at) (c .stop .ensures),
-      (ap (sets (a .out .now) (a .at)) (sym (refused-tick-quiet (a .p) (a .t) e)), omega arith),
+      (refused-tick-quiet (a .p) (a .t) e (a .out .now) (a .at), omega arith),
     )
 
 add-done : tie.Need-add-done
@@ -34,7 +32,7 @@ returns-2 c =
     let e = c .before .before .before .before .before .before .before .if1 .left in
     let f = c .before .before .before .before .note-change .ensures in (
       tick-noted (a .p) (a .t) e (c .before .before .before .before .note-change .result) (a .at) (f .0),
-      (f .1 .0 ∙ ap (sets (a .out .now) (a .at)) (sym (tick-wrote (a .p) (a .t) e)), f .1 .1),
+      (tick-output (a .p) (a .t) e (a .out .now) (c .before .before .before .before .note-change .last .0) (a .at) (f .1 .0), f .1 .1),
     )
 
 pub on-tick-spec : {M : Type 1} → statement M

@@ -1,14 +1,14 @@
 -- `files::replay::feed_bytes` meets its contract: a turn of the loop is a byte of the portion.
 -- Assumes nothing.
-use mathlib.Core.Path.{_≡_, refl, sym, ap, _∙_}
+use mathlib.Core.Path.{_≡_, refl, _∙_}
 use Prim.Native.Nat.{_+_, _-_, _≤_, _<_}
 use native.Mathlib.Omega.{arith}
-use lib.ListN.{length, length-take}
-use lib.Seq.{length-sets}
+use lib.ListN.{length, take, length-take}
 use borrow.Author.Needs.{needs}
 use Rattle.files.specs.declared.replay.Replay.{Replay}
+use Rattle.files.specs.Progress.{wroteLine}
 use Rattle.files.specs.Replay.{lineLimit}
-use Rattle.files.proofs.FeedLaws.{Reached, reached-none, same-room, held-short, reached-closed, reached-filled, reached-held, reached-all}
+use Rattle.files.proofs.FeedLaws.{Reached, reached-none, stored-length, same-room, held-short, reached-closed, reached-filled, reached-held, reached-all}
 use Rattle.files.proofs.replay.feed_bytes.Statement.{statement}
 use Rattle.files.proofs.replay.feed_bytes.Tie as tie
 
@@ -52,13 +52,13 @@ loop-again c =
     let l = c .before .before .before .before .before .before .before .loop in
     let k = c .before .before .before .cut-byte in
     let s : Replay = record { progress = l .progress; held = l .held; count = l .n } in
-    let e = sym (c .enum-told .given .1) ∙ k .ensures .0 in (
+    let told = c .enum-told .given .1 in (
       omega arith,
       l .inv .1,
       same-room (l .held) (k .last .0) _ _ (k .ensures .1) (l .inv .2),
-      held-short s _ (omega arith) (l .inv .2) e,
+      held-short s _ (omega arith) (l .inv .2) (k .result) told (k .ensures .0),
       omega arith,
-      reached-held (a .state) (a .portion .now) (a .out .now) (l .i) s (l .at) (l .out) (omega arith) (l .inv .5) (k .last .0) (k .ensures .1) e,
+      reached-held (a .state) (a .portion .now) (a .out .now) (l .i) s (l .at) (l .out) (omega arith) (l .inv .5) (k .last .0) (k .ensures .1) (k .result) told (k .ensures .0),
     )
 
 enum-told-2 : tie.Need-enum-told-2 Inv-loop μ-loop
@@ -95,15 +95,15 @@ loop-again-2 c =
     let k = c .before .before .before .before .before .before .before .before .before .cut-byte in
     let t = c .before .before .before .on-line in
     let s : Replay = record { progress = l .progress; held = l .held; count = l .n } in
-    let e = sym (c .before .before .before .before .before .before .enum-told2 .given .1) ∙ k .ensures .0 in
+    let told = c .before .before .before .before .before .before .enum-told2 .given .1 in
     let w = same-room (l .held) (k .last .0) _ _ (k .ensures .1) (l .inv .2) in
     let turn = c .before .before .before .before .before .before .before .before .before .before .before .before .loop-test .taken in (
       omega (arith, turn),
-      ap length (t .ensures .1 .0) ∙ simp length-sets (l .inv .1),
+      stored-length (l .out) (t .last .1 .1 .0) (wroteLine (l .progress) (take (l .n + 1) (k .last .0))) (l .at) _ (t .ensures .1 .0) (l .inv .1),
       w,
       omega arith,
       omega (arith, simp length-take at (t .ensures .1 .1), l .inv .4),
-      reached-closed (a .state) (a .portion .now) (a .out .now) (l .i) s (l .at) (l .out) (omega (arith, turn)) (l .inv .5) (k .last .0) (k .ensures .1) (omega (arith, l .inv .3)) (l .inv .2) (t .result) (t .last .1 .1 .0) e (t .ensures .0) (t .ensures .1 .0),
+      reached-closed (a .state) (a .portion .now) (a .out .now) (l .i) s (l .at) (l .out) (omega (arith, turn)) (l .inv .5) (k .last .0) (k .ensures .1) (omega (arith, l .inv .3)) (l .inv .2) (k .result) told (k .ensures .0) (t .result) (t .last .1 .1 .0) (t .ensures .0) (t .ensures .1 .0),
     )
 
 enum-told-3 : tie.Need-enum-told-3 Inv-loop μ-loop
@@ -121,13 +121,13 @@ loop-again-3 c =
     let l = c .before .before .before .before .before .before .before .before .loop in
     let k = c .before .before .before .before .cut-byte in
     let s : Replay = record { progress = l .progress; held = l .held; count = l .n } in
-    let e = sym (c .before .enum-told3 .given .1) ∙ k .ensures .0 in (
+    let told = c .before .enum-told3 .given .1 in (
       omega arith,
       l .inv .1,
       same-room (l .held) (k .last .0) _ _ (k .ensures .1) (l .inv .2),
       omega arith,
       omega arith,
-      reached-filled (a .state) (a .portion .now) (a .out .now) (l .i) s (l .at) (l .out) (omega arith) (l .inv .5) (k .last .0) (k .ensures .1) (c .refuse-shape .result) e (c .refuse-shape .ensures),
+      reached-filled (a .state) (a .portion .now) (a .out .now) (l .i) s (l .at) (l .out) (omega arith) (l .inv .5) (k .last .0) (k .ensures .1) (k .result) told (k .ensures .0) (c .refuse-shape .result) (c .refuse-shape .ensures),
     )
 
 taken-requires : tie.Need-taken-requires Inv-loop μ-loop
