@@ -14,6 +14,7 @@ use Rattle.files.specs.declared.row.RowRead.{RowRead}
 use Rattle.files.specs.declared.row.RowRead.the-variants.{Accepted, Refused}
 use Rattle.text.specs.Number.{decimal}
 use Rattle.text.specs.Line.{narrow, rightShape, numbersOf, lineAnswer, fitsIn, written}
+use Rattle.files.specs.Output.{changeRoom}
 use Rattle.files.specs.Row.{lastRow, rowWidths, rowOf, rowRefusal, rowAnswer, rowNumber}
 use Rattle.text.proofs.Cases.{by-cond}
 use Rattle.files.proofs.AnswerNumbers.{answer-number}
@@ -44,10 +45,10 @@ module _ (s : List ℕ) (last : ℕ) where
 
     module _ (t : r .right ≡ true) where
       -- the number of field k, and that it fits
-      row-at : (k : ℕ) → k < 6 → (getD (r .numbers) k 0 ≡ getD (numbersOf s) k 0) × (getD (numbersOf s) k 0 < 10 ^ getD rowWidths k 0)
+      row-at : (k : ℕ) → k < length rowWidths → (getD (r .numbers) k 0 ≡ getD (numbersOf s) k 0) × (getD (numbersOf s) k 0 < 10 ^ getD rowWidths k 0)
       row-at k h = line-number rowWidths s (omega arith) r e t k (omega arith) h
 
-      pub row-fits : (k : ℕ) → k < 6 → getD (r .numbers) k 0 < 10 ^ getD rowWidths k 0
+      pub row-fits : (k : ℕ) → k < length rowWidths → getD (r .numbers) k 0 < 10 ^ getD rowWidths k 0
       row-fits k h = rw (row-at k h .0) (row-at k h .1)
 
       right : rightShape rowWidths s ≡ true
@@ -79,10 +80,9 @@ module _ (s : List ℕ) (last : ℕ) where
 
 -- ---- an accepted row
 
--- P of an answer, where it holds of a refusal and of an accepted row, which has 13 bytes or more and a number of at most
--- six digits
+-- P of an answer, where it holds of a refusal and of an accepted row, which is as long as any change line, or longer
 pub by-row : (P : RowRead → Type 0) (s : List ℕ) (last : ℕ) → ((n : ℕ) → P (Refused n))
-    → ((x : Row) → rightShape rowWidths s ≡ true → 13 ≤ length s → last + 1 ≤ lastRow → P (Accepted x)) → P (rowAnswer s last)
+    → ((x : Row) → rightShape rowWidths s ≡ true → changeRoom ≤ length s → last + 1 ≤ lastRow → P (Accepted x)) → P (rowAnswer s last)
 unfolding rowAnswer rowRefusal
 by-row P s last f g =
     by-cond P (eqb (rowRefusal s last) 0) (Accepted (rowOf (numbersOf s))) (Refused (rowRefusal s last))
@@ -99,9 +99,9 @@ by-row P s last f g =
     (eqb-true (rowRefusal s last) 0 e))
     (λ e. f (rowRefusal s last))
 
-pub accepted-row : (s : List ℕ) (last : ℕ) (x : Row) → rowAnswer s last ≡ Accepted x → (13 ≤ length s) × (last + 1 ≤ lastRow)
+pub accepted-row : (s : List ℕ) (last : ℕ) (x : Row) → rowAnswer s last ≡ Accepted x → (changeRoom ≤ length s) × (last + 1 ≤ lastRow)
 accepted-row s last x =
-    by-row (λ (a : RowRead). a ≡ Accepted x → (13 ≤ length s) × (last + 1 ≤ lastRow)) s last
+    by-row (λ (a : RowRead). a ≡ Accepted x → (changeRoom ≤ length s) × (last + 1 ≤ lastRow)) s last
     (λ n e. let z : _≡_ {A = ℕ} 0 1 = cc in absurd (omega arith))
     (λ y t k m e. (k, m))
 
@@ -111,7 +111,7 @@ no-row-after-last s x e = let k = accepted-row s lastRow x e .1 in omega arith
 
 -- ---- a row that is written in decimals is read back
 
-module _ (last stamp a b c block : ℕ) (n : last + 1 ≤ 999999) (t : stamp ≤ 9999999999) (ka : a ≤ 9999999) (kb : b ≤ 9999999) (kc : c ≤ 9999999) (kd : block ≤ 1) where
+module _ (last stamp a b c block : ℕ) (n : last + 1 ≤ lastRow) (t : stamp ≤ 9999999999) (ka : a ≤ 9999999) (kb : b ≤ 9999999) (kc : c ≤ 9999999) (kd : block ≤ 1) where
   abbrev fields : List (List ℕ)
   fields = decimal (last + 1) ∷ decimal stamp ∷ decimal a ∷ decimal b ∷ decimal c ∷ decimal block ∷ []
 

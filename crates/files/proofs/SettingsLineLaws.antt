@@ -5,7 +5,7 @@ use mathlib.Core.Bool.{true, false}
 use mathlib.Core.List.{List}
 use Prim.Native.Nat.{ℕ, _^_, _<_}
 use native.Mathlib.Omega.{arith}
-use lib.ListN.{getD}
+use lib.ListN.{length, getD}
 use borrow.Author.Tests.{ne-eqb}
 use Rattle.phase.specs.Settings.{settingsRefusal}
 use Rattle.text.specs.declared.line.Line.{Line}
@@ -35,10 +35,10 @@ module _ (s : List ℕ) (r : Line) (e : r ≡ lineAnswer settingsWidths s) where
   settings-shape t = settings-refused s 12 (rw (sym (line-shape settingsWidths s (omega arith) r e) ∙ t)) (λ k. omega arith)
 
   module _ (t : r .right ≡ true) where
-    settings-at : (k : ℕ) → k < 7 → (getD (r .numbers) k 0 ≡ getD (numbersOf s) k 0) × (getD (numbersOf s) k 0 < 10 ^ getD settingsWidths k 0)
+    settings-at : (k : ℕ) → k < length settingsWidths → (getD (r .numbers) k 0 ≡ getD (numbersOf s) k 0) × (getD (numbersOf s) k 0 < 10 ^ getD settingsWidths k 0)
     settings-at k h = line-number settingsWidths s (omega arith) r e t k (omega arith) h
 
-    pub settings-fits : (k : ℕ) → k < 7 → getD (r .numbers) k 0 < 10 ^ getD settingsWidths k 0
+    pub settings-fits : (k : ℕ) → k < length settingsWidths → getD (r .numbers) k 0 < 10 ^ getD settingsWidths k 0
     settings-fits k h = rw (settings-at k h .0) (settings-at k h .1)
 
     same : settingsIn (r .numbers) ≡ settingsIn (numbersOf s)

@@ -28,15 +28,17 @@ lastLine (a ∷ l) = (a ∷ l) ∷ []
 unfoldable pub linesFrom : Closer → List ℕ → List ℕ → List (List ℕ)
 linesFrom closer line [] = lastLine line
 linesFrom closer line (b ∷ s) =
-    cond (closedBy closer (line ++ (b ∷ []))) ((line ++ (b ∷ [])) ∷ linesFrom closer [] s) (linesFrom closer (line ++ (b ∷ [])) s)
+    cond (closedBy closer (line ++ (b ∷ [])))
+    ((line ++ (b ∷ [])) ∷ linesFrom closer [] s)
+    (linesFrom closer (line ++ (b ∷ [])) s)
 
 abbrev pub linesOf : Closer → List ℕ → List (List ℕ)
 linesOf closer s = linesFrom closer [] s
 
 -- ---- what the cutter of a stream answers
 
--- The line that has begun, with the next byte: closed; or as long as `limit`, one more than the longest line that a client
--- takes, and not closed; or to be held.
+-- The line that has begun, with the next byte: closed; or as long as `limit`, one more than the longest line that a
+-- client takes, and not closed; or to be held.
 abbrev pub cutOf : Closer → ℕ → List ℕ → Cut
 cutOf closer limit line = cond (closedBy closer line) Closed (cond (eqb (length line) limit) TooLong Held)
 
