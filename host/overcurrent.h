@@ -1,5 +1,5 @@
 /*
- * Phase overcurrent relay module: the two functions of librelay.a.
+ * Phase overcurrent relay module: the two functions of libborder.a.
  *
  * Three phases L1, L2, L3, one tick per millisecond. The rules are those of
  * document 01; this page says what a caller in C needs of them.
