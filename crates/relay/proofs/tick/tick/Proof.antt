@@ -1,16 +1,21 @@
 -- `relay::tick::tick` meets its contract: asked first, then one step.
 -- Assumes nothing.
-use mathlib.Core.Bool.{cond}
-use mathlib.Core.Path.{_≡_, sym, _∙_, ap}
+use native.Mathlib.Omega.{arith}
+use mathlib.Core.Path.{_≡_, sym}
 use borrow.Author.Needs.{needs}
-use lib.Dec.{leb}
-use Rattle.relay.proofs.RelayLaws.{paces-are-paced, relay-passed, relay-tick-accepted, relay-tick-refused}
-use Rattle.checks.specs.Checks.{firstFailed}
-use Rattle.relay.specs.Tick.{relayChecks, relayTickRefusal}
-use Rattle.relay.specs.declared.step.Stepped.{Stepped}
-use Rattle.relay.specs.declared.tick.RelayTicked.{RelayTicked}
+use Rattle.relay.proofs.RelayLaws.{paces-are-paced, relay-tick-passed, relay-tick-refused, relay-tick-refusal-by-parts, relay-tick-done}
+use Rattle.relay.specs.Tick.{relayTickRefusal}
 use Rattle.relay.proofs.tick.tick.Statement.{statement}
 use Rattle.relay.proofs.tick.tick.Tie as tie
+
+-- the number that was asked
+asked : (c : tie.After-relay-first-failed) → c .relay-first-failed .result ≡ relayTickRefusal (c .before .before .args .settings) (c .before .before .args .state) (c .before .before .args .block)
+asked c =
+    let a = c .before .before .args in
+    relay-tick-refusal-by-parts (a .settings) (a .state) (a .block) _ _ (c .before .first-failed .ensures) (c .relay-first-failed .ensures)
+
+accepted : (c : tie.Else1) → relayTickRefusal (c .before .before .before .args .settings) (c .before .before .before .args .state) (c .before .before .before .args .block) ≡ 0
+accepted c = omega (arith, asked (c .before), c .if1 .left)
 
 first-failed-requires : tie.Need-first-failed-requires
 first-failed-requires c κs = search needs
@@ -19,36 +24,23 @@ relay-first-failed-requires : tie.Need-relay-first-failed-requires
 relay-first-failed-requires c κs = search needs
 
 returns : tie.Need-returns
-unfolding relayTickRefusal
 returns c =
     let a = c .before .before .before .args in
-    let e : c .before .relay-first-failed .result ≡ relayTickRefusal (a .settings) (a .state) (a .block)
-    = c .before .relay-first-failed .ensures ∙ ap (λ n. firstFailed (relayChecks (a .settings) (a .state)) n) (c .before .before .first-failed .ensures) in
-    sym (relay-tick-refused (a .settings) (a .state) (a .l1) (a .l2) (a .l3) (a .block) _ e (c .if1 .taken))
+    sym (relay-tick-refused (a .settings) (a .state) (a .l1) (a .l2) (a .l3) (a .block) _ (asked (c .before)) (λ z. omega (arith, z, c .if1 .taken)))
 
 paces-of-requires : tie.Need-paces-of-requires
 paces-of-requires c κs = search needs
 
 step-requires : tie.Need-step-requires
-unfolding relayTickRefusal
 step-requires c κs =
     let a = c .before .before .before .before .args in
-    let e : c .before .before .relay-first-failed .result ≡ relayTickRefusal (a .settings) (a .state) (a .block)
-    = c .before .before .relay-first-failed .ensures ∙ ap (λ n. firstFailed (relayChecks (a .settings) (a .state)) n) (c .before .before .before .first-failed .ensures) in
-    let p = relay-passed (a .settings) (a .state) (cond (leb (a .block) 1) 0 14) (sym e ∙ c .before .if1 .left) in
+    let p = relay-tick-passed (a .settings) (a .state) (a .block) (accepted (c .before)) in
     record { range = p .range; valid = p .valid; paced = rw (c .paces-of .ensures) (paces-are-paced (a .settings) (a .l1) (a .l2) (a .l3)) }
 
 returns-2 : tie.Need-returns-2
-unfolding relayTickRefusal
 returns-2 c =
     let a = c .before .before .before .before .before .before .args in
-    let e : c .before .before .before .before .relay-first-failed .result ≡ relayTickRefusal (a .settings) (a .state) (a .block)
-    = c .before .before .before .before .relay-first-failed .ensures ∙ ap (λ n. firstFailed (relayChecks (a .settings) (a .state)) n) (c .before .before .before .before .before .first-failed .ensures) in
-    ap (λ (s : Stepped). ticked s) (c .before .step .ensures)
-    ∙ sym (relay-tick-accepted (a .settings) (a .state) (a .l1) (a .l2) (a .l3) (a .block) (sym e ∙ c .before .before .before .if1 .left))
-  where
-    ticked : Stepped → RelayTicked
-    ticked s = record { refusal = 0; state = s .state; outputs = s .outputs }
+    relay-tick-done (a .settings) (a .state) (a .l1) (a .l2) (a .l3) (a .block) _ (accepted (c .before .before .before)) (c .before .step .ensures)
 
 pub tick-spec : {M : Type 1} → statement M
 tick-spec =
