@@ -1,7 +1,8 @@
 -- The refusal numbers of the relay (01, 'Refusal numbers'), beside those of a phase.
 use Prim.Native.Nat.{ℕ}
 
--- 10: "a batch's lent lengths differ in ticks, or at the C border a currents slice isn't 4 bytes a tick or the states aren't 48 bytes"
+-- 10: "a batch's lent lengths differ in ticks, or at the C border a currents slice isn't 4 bytes a tick or the states aren't
+-- 48 bytes"
 abbrev pub lengthsDiffer : ℕ
 lengthsDiffer = 10
 

@@ -2,7 +2,7 @@
 -- Assumes nothing.
 use borrow.Author.Needs.{needs}
 use Rattle.phase.proofs.Accepted.{ready}
-use Rattle.relay.proofs.RelayLaws.{each-valid, stepped}
+use Rattle.relay.proofs.RelayLaws.{each-valid, step-by-parts}
 use Rattle.relay.proofs.step.step.Statement.{statement}
 use Rattle.relay.proofs.step.step.Tie as tie
 
@@ -51,7 +51,7 @@ output-byte-requires c κs = search needs
 returns : tie.Need-returns
 returns c =
     let a = c .before .before .before .before .before .before .before .before .before .before .before .before .before .args in
-    stepped (a .settings) (a .t3) (a .l1) (a .l2) (a .l3) (a .block) _ _ _ _ _ _ _
+    step-by-parts (a .settings) (a .t3) (a .l1) (a .l2) (a .l3) (a .block) _ _ _ _ _ _ _
     (c .before .before .before .before .before .before .before .before .before .before .before .before .next-pace .ensures)
     (c .before .before .before .before .before .before .before .before .before .before .before .next-pace2 .ensures)
     (c .before .before .before .before .before .before .before .before .before .before .next-pace3 .ensures)
