@@ -13,7 +13,7 @@ use Rattle.files.specs.declared.replay.Fed.{Fed}
 use Rattle.text.specs.Lines.{joined}
 use Rattle.files.specs.Output.{endRoom}
 use Rattle.files.specs.Progress.{endOf, refuse}
-use Rattle.files.specs.Replay.{replayOf, longestLine, lineLimit, freshReplay, portionRoom, fed, writes, takes, fedBy, fedIf, feedAnswer, writesIf, feedWrites, endIf, finishIf, finishWrites}
+use Rattle.files.specs.Replay.{replayOf, longestLine, lineLimit, freshReplay, portionRoom, fed, writes, takes, fedBy, fedIf, feedAnswer, writesIf, feedWrites, endsWith, finishIf, finishWrites}
 use Rattle.files.specs.device.Calls.{Sound}
 use Rattle.checks.proofs.Tests.{both-true}
 use Rattle.files.proofs.PortionLaws.{fed-sound, fresh-sound, feedAll, replay-of-portions}
@@ -62,14 +62,9 @@ module _ (r : Replay) (room : ℕ) where
   unfolding finishIf
   finish-cramped h = ap (λ (t : Bool). finishIf t r) (lt-leb endRoom room h)
 
-  module _ (h : endRoom ≤ room) where
-    pub finish-closed : r .count ≡ 0 → finishWrites r room ≡ endOf (r .progress)
-    unfolding finishIf endIf
-    finish-closed e = ap (λ (t : Bool). finishIf t r) (le-leb endRoom room h) ∙ ap (λ (t : Bool). endIf t r) (eq-eqb (r .count) 0 e)
-
-    pub finish-open : (r .count ≡ 0 → ⊥) → finishWrites r room ≡ endOf (refuse (r .progress))
-    unfolding finishIf endIf
-    finish-open e = ap (λ (t : Bool). finishIf t r) (le-leb endRoom room h) ∙ ap (λ (t : Bool). endIf t r) (ne-eqb (r .count) 0 e)
+  pub finish-roomy : endRoom ≤ room → finishWrites r room ≡ endsWith r
+  unfolding finishIf
+  finish-roomy h = ap (λ (t : Bool). finishIf t r) (le-leb endRoom room h)
 
 -- ---- all calls together
 

@@ -19,7 +19,7 @@ use Rattle.text.specs.declared.lines.Closer.the-variants.{CrLf}
 use Rattle.text.specs.declared.lines.Cut.{Cut}
 use Rattle.text.specs.Lines.{linesFrom, joined}
 use Rattle.files.specs.Progress.{endOf, refuseBy}
-use Rattle.files.specs.Replay.{byLines, replayOf, lineLimit, heldLine, freshReplay, nextLine, fedByteBy, wroteByteBy, fedByte, wroteByte, fed, writes, endIf, endsWith}
+use Rattle.files.specs.Replay.{byLines, replayOf, lineLimit, heldLine, freshReplay, nextLine, fedByteBy, wroteByteBy, fedByte, wroteByte, fed, writes, lastIf, endsWith}
 use Rattle.files.specs.device.Calls.{Sound}
 use Rattle.text.proofs.ShapeLaws.{ends-nothing}
 use Rattle.text.proofs.CutLaws.{by-cut, next-length, lines-cons, lines-nil, last-nothing, joined-none, joined-more}
@@ -86,8 +86,8 @@ held-nothing : (r : Replay) → r .count ≡ 0 → heldLine r ≡ []
 held-nothing r e = rw e
 
 module _ (r : Replay) (h : Sound r) where
-  end-if : (t : Bool) → eqb (r .count) 0 ≡ t → left r [] ≡ endIf t r
-  unfolding left endIf
+  end-if : (t : Bool) → eqb (r .count) 0 ≡ t → left r [] ≡ endOf (lastIf t (r .progress))
+  unfolding left lastIf
   end-if true e = rw (held-nothing r (eqb-true (r .count) 0 e), lines-nil CrLf [], last-nothing) (by-nil (r .progress))
   end-if false e =
       let k : 0 < length (heldLine r) = rw length-take (omega (arith, h .short, h .room, eqb-false (r .count) 0 e)) in
@@ -119,8 +119,8 @@ unfolding refuseBy
 refuse-stopped g p n e = ap (λ (q : Stage). refuseBy q p) e
 
 module _ (r : Replay) (n : ℕ) (e : r .progress .stage ≡ Stopped n) where
-  stopped-if : (t : Bool) → endIf t r ≡ endOf (r .progress)
-  unfolding endIf
+  stopped-if : (t : Bool) → endOf (lastIf t (r .progress)) ≡ endOf (r .progress)
+  unfolding lastIf
   stopped-if true = refl
   stopped-if false = ap endOf (refuse-stopped (r .progress .stage) (r .progress) n e)
 

@@ -16,7 +16,7 @@ use Rattle.files.specs.declared.progress.Progress.{Progress}
 use Rattle.files.specs.declared.replay.Replay.{Replay}
 use Rattle.files.specs.declared.replay.Fed.{Fed}
 use Rattle.files.specs.Output.{endRoom}
-use Rattle.files.specs.Progress.{freshProgress, refuse, afterLine, wroteLine, endOf}
+use Rattle.files.specs.Progress.{freshProgress, refuse, afterLine, wroteLine, endRefusal, endOf}
 
 -- ---- the whole input
 
@@ -110,12 +110,19 @@ feedWrites r s room = writesIf (takes (r .count) (length s) room) r s
 -- ---- the end of the input
 
 -- a line that has begun and is not closed is of wrong shape
-unfoldable pub endIf : Bool → Replay → List ℕ
-endIf true r = endOf (r .progress)
-endIf false r = endOf (refuse (r .progress))
+unfoldable pub lastIf : Bool → Progress → Progress
+lastIf true p = p
+lastIf false p = refuse p
+
+abbrev pub lastProgress : Replay → Progress
+lastProgress r = lastIf (eqb (r .count) 0) (r .progress)
 
 abbrev pub endsWith : Replay → List ℕ
-endsWith r = endIf (eqb (r .count) 0) r
+endsWith r = endOf (lastProgress r)
+
+-- the refusal number of the end line
+abbrev pub refusalAtEnd : Replay → ℕ
+refusalAtEnd r = endRefusal (lastProgress r .stage)
 
 -- nothing is written where the output has less room than any end line may need
 unfoldable pub finishIf : Bool → Replay → List ℕ

@@ -15,6 +15,7 @@ pub use replay::Replay;
 pub use replay::feed;
 pub use replay::finish;
 pub use replay::has_stopped;
+pub use replay::refusal_at_end;
 pub use row::Row;
 pub use row::RowRead;
 pub use row::read_row;

@@ -202,7 +202,7 @@ pub(crate) fn on_line(p: Progress, line: &[u8], out: &mut [u8], at: usize) -> No
 }
 
 // The refusal number of the end line: where no settings line came, its shape is wrong.
-fn end_refusal(stage: Stage) -> u32
+pub(crate) fn end_refusal(stage: Stage) -> u32
     ensures { λ r. ⌜ r ≡ endRefusal stage ⌝ }
 {
     match stage {

@@ -3,11 +3,12 @@ ghost use mathlib.Core.Path.{_≡_};
 ghost use Prim.Native.Nat.{_+_, _≤_, _<_};
 ghost use lib.ListN.{length};
 ghost use lib.Seq.{sets};
-ghost use Rattle.files.specs.Replay.{lineLimit, freshReplay, writes, portionRoom, takes, fedBy, feedAnswer, feedWrites, finishWrites, isStopped};
+ghost use Rattle.files.specs.Replay.{lineLimit, freshReplay, writes, portionRoom, takes, fedBy, feedAnswer, feedWrites, lastProgress, refusalAtEnd, finishWrites, isStopped};
 ghost use Rattle.files.specs.device.Calls.{takenWith};
 use crate::output::END_ROOM;
 use crate::progress::Progress;
 use crate::progress::Stage;
+use crate::progress::end_refusal;
 use crate::progress::on_end;
 use crate::progress::on_line;
 use crate::progress::refuse_shape;
@@ -143,6 +144,27 @@ pub fn feed(state: Replay, portion: &[u8], out: &mut [u8]) -> Fed
     }
 }
 
+// The progress at the end of the input: a line that has begun and is not closed is of wrong shape.
+fn last_progress(state: Replay) -> Progress
+    ensures { λ r. ⌜ r ≡ lastProgress state ⌝ }
+{
+    let count = state.count;
+    let progress = state.progress;
+    if count == 0 {
+        return progress;
+    }
+    refuse_shape(progress)
+}
+
+// The refusal number of the end line that `finish` writes.
+pub fn refusal_at_end(state: Replay) -> u32
+    ensures { λ r. ⌜ r ≡ refusalAtEnd state ⌝ }
+{
+    let last = last_progress(state);
+    let stage = last.stage;
+    end_refusal(stage)
+}
+
 // Ends the input: writes the end line at the front of `out` and answers its length. Where `out` has less than END_ROOM
 // bytes it writes nothing and answers 0.
 pub fn finish(state: Replay, out: &mut [u8]) -> usize
@@ -157,13 +179,8 @@ pub fn finish(state: Replay, out: &mut [u8]) -> usize
     if out.len() < END_ROOM {
         return 0;
     }
-    let count = state.count;
-    let progress = state.progress;
-    if count == 0 {
-        return on_end(progress, out);
-    }
-    let refused = refuse_shape(progress);
-    on_end(refused, out)
+    let last = last_progress(state);
+    on_end(last, out)
 }
 
 // Whether the replay has stopped: what follows of the input changes nothing any more.

@@ -1,10 +1,11 @@
-// The replay program: a settings line and data rows on standard input, changes and the end line on standard output.
+// The replay program: a settings line and data rows on standard input, changes and the end line on standard output; why a
+// recording was refused, on standard error.
+mod why;
+
 use files::END_ROOM;
 use files::Fed;
 use files::LONGEST_LINE;
 use files::Replay;
-use libc::STDIN_FILENO;
-use libc::STDOUT_FILENO;
 ghost use mathlib.Core.Path.{_≡_};
 ghost use mathlib.Core.Bool.{true};
 ghost use Prim.Native.Nat.{_≤_};
@@ -34,24 +35,24 @@ fn take_portion(state: Replay, portion: &[u8], out: &mut [u8]) -> Fed
 }
 
 // Reads a portion of at most 64 KiB and writes what it gives.
-fn read_portion(state: Replay) -> Turn
+fn one_turn(state: Replay) -> Turn
     requires { ⌜ Sound state ⌝ }
     ensures { λ r. ⌜ Sound (r .state) ⌝ }
 {
     let mut portion = [0u8; PORTION];
     let mut out = [0u8; ROOM];
-    let got = libc::read(STDIN_FILENO, &mut portion);
-    if got <= 0 {
+    let got = program::read_portion(&mut portion);
+    let n = got.count;
+    if n == 0 {
         return Turn {
             state,
             over: true,
-            failed: got < 0,
+            failed: got.failed,
         };
     }
-    let n = io::count(got, &portion);
     let t = take_portion(state, &portion[..n], &mut out);
     let w = t.written;
-    let put = io::write_all(STDOUT_FILENO, &out[..w]);
+    let put = program::write_out(&out[..w]);
     let after = t.state;
     let over = files::has_stopped(after);
     Turn {
@@ -66,7 +67,7 @@ fn main() {
     // A program must be seen to end. No input has so many portions.
     let mut portions = u64::MAX;
     while portions > 0 {
-        let t = read_portion(state);
+        let t = one_turn(state);
         let after = t.state;
         state = after;
         if t.failed {
@@ -79,5 +80,7 @@ fn main() {
     }
     let mut out = [0u8; END_ROOM];
     let w = files::finish(state, &mut out);
-    io::write_all(STDOUT_FILENO, &out[..w]);
+    if program::write_out(&out[..w]) {
+        why::tell(state);
+    }
 }

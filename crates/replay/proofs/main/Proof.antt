@@ -20,8 +20,8 @@ fresh-requires c κs = search needs
 loop-holds : tie.Need-loop-holds Inv-loop μ-loop
 loop-holds c = rw (c .fresh .ensures) fresh-sound
 
-read-portion-requires : tie.Need-read-portion-requires Inv-loop μ-loop
-read-portion-requires c κs = search needs
+one-turn-requires : tie.Need-one-turn-requires Inv-loop μ-loop
+one-turn-requires c κs = search needs
 
 returns : tie.Need-returns Inv-loop μ-loop
 returns c = search needs
@@ -44,14 +44,20 @@ finish-requires c κs = search needs
 array-share-prefix-out : tie.Need-array-share-prefix-out Inv-loop μ-loop
 array-share-prefix-out c = search needs
 
-slice-aggregate-write-all : tie.Need-slice-aggregate-write-all Inv-loop μ-loop
-slice-aggregate-write-all c = simp length-take (omega (arith, c .before .before .finish .ensures .1 .1))
+slice-aggregate-write-out : tie.Need-slice-aggregate-write-out Inv-loop μ-loop
+slice-aggregate-write-out c = simp length-take (omega (arith, c .before .before .finish .ensures .1 .1))
 
-write-all-requires : tie.Need-write-all-requires Inv-loop μ-loop
-write-all-requires c κs = search needs
+write-out-requires : tie.Need-write-out-requires Inv-loop μ-loop
+write-out-requires c κs = search needs
+
+tell-requires : tie.Need-tell-requires Inv-loop μ-loop
+tell-requires c κs = search needs
 
 returns-2 : tie.Need-returns-2 Inv-loop μ-loop
 returns-2 c = search needs
+
+returns-3 : tie.Need-returns-3 Inv-loop μ-loop
+returns-3 c = search needs
 
 pub main-spec : {M : Type 1} → statement M
 main-spec =
@@ -61,7 +67,7 @@ main-spec =
     μ-loop
     fresh-requires
     loop-holds
-    read-portion-requires
+    one-turn-requires
     returns
     sub-portions
     loop-less
@@ -69,6 +75,8 @@ main-spec =
     slice-aggregate-finish
     finish-requires
     array-share-prefix-out
-    slice-aggregate-write-all
-    write-all-requires
-    returns-2)
+    slice-aggregate-write-out
+    write-out-requires
+    tell-requires
+    returns-2
+    returns-3)

@@ -1,0 +1,27 @@
+// What each refusal number means, for a person.
+use crate::output::say;
+
+// The settings' numbers, 1 to 7.
+fn say_setting(refusal: u32) {
+    match refusal {
+        1 => say(b"the operation is outside 0 to 12"),
+        2 => say(b"the start current is outside 10 to 3000"),
+        3 => say(b"the time multiplier is outside 5 to 1500"),
+        4 => say(b"the minimum delay is outside 40 to 60000"),
+        5 => say(b"the definite delay is outside 40 to 60000"),
+        6 => say(b"the reset time is outside 60 to 60000"),
+        _ => say(b"start only is neither 0 nor 1"),
+    }
+}
+
+// In the words of document 01's table.
+pub fn say_refusal(refusal: u32) {
+    match refusal {
+        1..=7 => say_setting(refusal),
+        8 => say(b"a state isn't valid"),
+        12 => say(b"the line has the wrong shape"),
+        13 => say(b"the row number isn't one more than the last (the first is 1)"),
+        14 => say(b"the block field isn't 0 or 1"),
+        _ => say(b"no document has this number"),
+    }
+}

@@ -1,0 +1,30 @@
+// Why a recording was refused, in one line on standard error.
+use files::Replay;
+use libc::STDERR_FILENO;
+use program::say;
+use program::words::say_refusal;
+
+// The line that was refused: the settings that a replay holds pass their check once a settings line was accepted.
+fn say_place(state: Replay) {
+    let progress = state.progress;
+    if progress.settings.check() != 0 {
+        say(b"the settings line");
+        return;
+    }
+    say(b"row ");
+    io::print_decimal(STDERR_FILENO, progress.done as u64 + 1);
+}
+
+// Says nothing where nothing was refused.
+pub(crate) fn tell(state: Replay) {
+    let refusal = files::refusal_at_end(state);
+    if refusal == 0 {
+        return;
+    }
+    say_place(state);
+    say(b" is refused with ");
+    io::print_decimal(STDERR_FILENO, refusal as u64);
+    say(b": ");
+    say_refusal(refusal);
+    say(b"\n");
+}
