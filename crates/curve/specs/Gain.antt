@@ -7,6 +7,7 @@ use Rattle.curve.specs.Time.{operateTime, resetTime, hasOperateTime, has
 unfoldable pub gainOf : ℕ → ℕ → ℕ
 gainOf op m = cond (hasOperateTime op m) (10 ^ 14 / operateTime op m) 0
 
--- "the loss per tick is 10^14 divided by it, rounded down; at m = 100 the loss is 0", and 0 wherever else the paper gives no reset time
+-- "the loss per tick is 10^14 divided by it, rounded down; at m = 100 the loss is 0", and 0 wherever else the paper gives no
+-- reset time
 unfoldable pub lossOf : ℕ → ℕ → ℕ
 lossOf op m = cond (hasResetTime op m) (10 ^ 14 / resetTime op m) 0

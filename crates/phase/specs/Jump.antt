@@ -69,7 +69,8 @@ refusedJump refusal state = record { refusal = refusal; state = state; trip = No
 -- what a jump answers
 unfoldable pub jumpAnswer : Settings → PhaseState → ℕ → ℕ → Jumped
 jumpAnswer settings state g count =
-    cond (eqb (jumpRefusal settings state count) 0) (jumpOf settings state g count) (refusedJump (jumpRefusal settings state count) state)
+    cond (eqb (jumpRefusal settings state count) 0) (jumpOf settings state g count)
+    (refusedJump (jumpRefusal settings state count) state)
 
 -- the number of the trip tick that it answers: 0 where there is none, and where the jump is refused
 unfoldable pub jumpNumber : Settings → PhaseState → ℕ → ℕ → ℕ

@@ -99,7 +99,12 @@ tickRefusal settings state = lowest (phaseChecks settings state)
 -- an accepted tick
 abbrev pub tickOf : Settings → PhaseState → ℕ → Ticked
 tickOf settings state g =
-    record { refusal = 0; state = nextState settings state g; start = phaseStart settings state g; trip = phaseTrip settings state g }
+    record {
+      refusal = 0;
+      state = nextState settings state g;
+      start = phaseStart settings state g;
+      trip = phaseTrip settings state g;
+    }
 
 -- "A refusal returns its number, the state unchanged, all outputs off"
 abbrev pub refusedTick : ℕ → PhaseState → Ticked

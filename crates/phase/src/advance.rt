@@ -110,7 +110,8 @@ fn advance_on(
     state: PhaseState,
 ) -> PhaseState
     requires { ⌜ Ready settings pace state × (n ≤ jumpLimit) ⌝ }
-    ensures { λ r. ⌜ r ≡ advanceBy (Kind.On timing) (started settings state (pace .sample)) settings (pace .sample) n state ⌝ }
+    ensures { λ r.
+        ⌜ r ≡ advanceBy (Kind.On timing) (started settings state (pace .sample)) settings (pace .sample) n state ⌝ }
 {
     if is_started(settings, state, pace.sample) {
         let sum = sum_up_after(timing, settings, pace, n, state);

@@ -69,7 +69,8 @@ fn first_due(timing: Timing, settings: Settings, pace: Pace, n: u32, state: Phas
 
 fn first_trip_on(timing: Timing, settings: Settings, pace: Pace, n: u32, state: PhaseState) -> u32
     requires { ⌜ Ready settings pace state ⌝ }
-    ensures { λ r. ⌜ r ≡ firstTripBy (Kind.On timing) (started settings state (pace .sample)) settings (pace .sample) n state ⌝ }
+    ensures { λ r.
+        ⌜ r ≡ firstTripBy (Kind.On timing) (started settings state (pace .sample)) settings (pace .sample) n state ⌝ }
 {
     if is_started(settings, state, pace.sample) {
         if settings.start_only == 0 {
