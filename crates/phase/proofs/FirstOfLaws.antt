@@ -30,7 +30,7 @@ none-before zero k true e = absurd (suc-ne-zero k e)
 none-before zero k false e = (refl, refl)
 none-before (suc found) k b e = absurd (suc-ne-zero found e)
 
-pub none-means : (test : ℕ → Bool) (n : ℕ) → firstOf test n ≡ 0 → (k : ℕ) → 0 < k → k ≤ n → test k ≡ false
+pub none-means : (test : ℕ → Bool) (n : ℕ) → firstOf test n ≡ 0 → Never test n
 unfolding firstOf
 none-means test zero e k low high = absurd (omega arith)
 none-means test (suc n) e k low high =
@@ -87,11 +87,11 @@ last-or-none true x y f = f refl
 last-or-none false x y f = refl
 
 -- a test that holds from the number m on
-pub first-at : (t : ℕ → Bool) (m n : ℕ) → 0 < m → ((k : ℕ) → t (suc k) ≡ leb m (suc k)) → firstOf t n ≡ oneOf n m
+pub first-from : (t : ℕ → Bool) (m n : ℕ) → 0 < m → ((k : ℕ) → t (suc k) ≡ leb m (suc k)) → firstOf t n ≡ oneOf n m
 unfolding firstOf
-first-at t zero n h e = absurd (not-suc-le-zero h)
-first-at t (suc m) zero h e = rw (lt-leb (suc m) 0 (omega arith))
-first-at t (suc m) (suc n) h e = rw (first-at t (suc m) n h e, e n) (go (leb (suc m) n) refl)
+first-from t zero n h e = absurd (not-suc-le-zero h)
+first-from t (suc m) zero h e = rw (lt-leb (suc m) 0 (omega arith))
+first-from t (suc m) (suc n) h e = rw (first-from t (suc m) n h e, e n) (go (leb (suc m) n) refl)
   where
     go : (b : Bool) → leb (suc m) n ≡ b → orLast (cond b (suc m) 0) (suc n) (leb (suc m) (suc n)) ≡ oneOf (suc n) (suc m)
     go true q = rw (le-leb (suc m) (suc n) (omega (arith, leb-true (suc m) n q)))

@@ -21,7 +21,7 @@ use Rattle.phase.specs.Settings.{tripLevel}
 use Rattle.phase.specs.device.Ranges.{InRange}
 use Rattle.phase.specs.State.{runLimit}
 use Rattle.phase.specs.Tick.{gainAt, started, nextState, phaseTrip, due, tripBy}
-use Rattle.phase.proofs.FirstOfLaws.{first-same, first-none, first-at}
+use Rattle.phase.proofs.FirstOfLaws.{first-same, first-none, first-from}
 use Rattle.phase.proofs.Walk.{started-stays, ticks-closed}
 
 -- ---- tests
@@ -74,7 +74,7 @@ flat-test level sum run delay k small full =
 
 delay-first : (delay run n : ℕ) → delay ≤ runLimit → firstOf (λ (k : ℕ). leb delay (min (run + k) runLimit)) n ≡ oneOf n (waitFor delay run)
 delay-first delay run n small =
-    first-at (λ (k : ℕ). leb delay (min (run + k) runLimit)) (waitFor delay run) n (omega arith)
+    first-from (λ (k : ℕ). leb delay (min (run + k) runLimit)) (waitFor delay run) n (omega arith)
     (λ k. leb-iff delay (min (run + suc k) runLimit) (waitFor delay run) (suc k) (λ a. omega arith) (λ a. omega arith))
 
 full-first : (level sum gain run delay n : ℕ) → delay ≤ runLimit → firstOf (λ (k : ℕ). leb level (min (sum + k * gain) level) && leb delay (min (run + k) runLimit)) n ≡ firstFull n (waitFor delay run) level sum gain
@@ -82,10 +82,10 @@ full-first level sum zero run delay n small = go (ltb sum level) refl
   where
     go : (b : Bool) → ltb sum level ≡ b → firstOf (λ (k : ℕ). leb level (min (sum + k * 0) level) && leb delay (min (run + k) runLimit)) n ≡ cond b 0 (oneOf n (max (waitFor delay run) (turns level sum 0)))
     go true q = first-none _ n (λ k. flat-never level sum run delay k (ltb-true sum level q))
-    go false q = first-at _ _ n (omega arith) (λ k. flat-test level sum run delay k small (ltb-false sum level q))
+    go false q = first-from _ _ n (omega arith) (λ k. flat-test level sum run delay k small (ltb-false sum level q))
 full-first level sum (suc gain) run delay n small =
     rw (eqb·suc-zero gain)
-    (first-at _ _ n (omega arith) (λ k. full-test level sum (suc gain) run delay k small (omega arith)))
+    (first-from _ _ n (omega arith) (λ k. full-test level sum (suc gain) run delay k small (omega arith)))
 
 due-first : (timing : Timing) (settings : Settings) (g n : ℕ) (state : PhaseState) → InRange settings → firstOf (λ (k : ℕ). due timing settings (advanceBy (On timing) true settings g k state)) n ≡ firstDue timing settings g n state
 due-first Definite settings g n state range =
