@@ -1,4 +1,4 @@
-// Layer 3, the relay: three phases, the decision, the batch and the C border.
+// Layer 3, the relay: three phases, the decision, the batch, and the batch on bytes that the crate `border` gives to C.
 pub mod batch;
 pub mod border;
 mod bytes;
