@@ -50,15 +50,22 @@ output-byte-requires c κs = search needs
 
 returns : tie.Need-returns
 returns c =
-    let a = c .before .before .before .before .before .before .before .before .before .before .before .before .before .args in
+    let outputs = c .before .before .before in
+    let third = outputs .before in
+    let second = third .before .before in
+    let first = second .before .before in
+    let pace3 = first .before .before in
+    let pace2 = pace3 .before in
+    let pace1 = pace2 .before in
+    let a = pace1 .before .args in
     step-by-parts (a .settings) (a .t3) (a .l1) (a .l2) (a .l3) (a .block) _ _ _ _ _ _ _
-    (c .before .before .before .before .before .before .before .before .before .before .before .before .next-pace .ensures)
-    (c .before .before .before .before .before .before .before .before .before .before .before .next-pace2 .ensures)
-    (c .before .before .before .before .before .before .before .before .before .before .next-pace3 .ensures)
-    (c .before .before .before .before .before .before .before .before .tick-ready .ensures)
-    (c .before .before .before .before .before .before .tick-ready2 .ensures)
-    (c .before .before .before .before .tick-ready3 .ensures)
-    (c .before .before .before .output-byte .ensures)
+    (pace1 .next-pace .ensures)
+    (pace2 .next-pace2 .ensures)
+    (pace3 .next-pace3 .ensures)
+    (first .tick-ready .ensures)
+    (second .tick-ready2 .ensures)
+    (third .tick-ready3 .ensures)
+    (outputs .output-byte .ensures)
 
 pub step-spec : {M : Type 1} → statement M
 step-spec =
