@@ -2,6 +2,7 @@
 // writes; and whether that differs where the input is cut in two at any place, or fed byte by byte.
 mod line;
 mod list;
+mod made_up;
 mod reader_cases;
 mod readers;
 mod room;
@@ -24,4 +25,5 @@ fn main() {
     reader_cases::settings_lines();
     room::feeds();
     room::ends();
+    made_up::row_without_settings();
 }
