@@ -1,11 +1,17 @@
 -- `files::row::read_row` meets its contract: the tests in the order of the refusal numbers.
 -- Assumes nothing.
+use Prim.Native.Nat.{ℕ, _^_, _<_}
 use native.Mathlib.Omega.{arith}
+use lib.ListN.{length, getD}
 use borrow.Author.Tests.{not-true, not-false}
+use Rattle.files.specs.Row.{rowWidths}
 use Rattle.files.proofs.RowLaws.{narrow-row, row-fits, row-shape, row-number, row-block, row-accepted, row-told}
 use borrow.Author.Needs.{needs}
 use Rattle.files.proofs.row.read_row.Statement.{statement}
 use Rattle.files.proofs.row.read_row.Tie as tie
+use Rattle.files.proofs.row.read_row.Lts as lts
+use Rattle.files.proofs.row.read_row.Reads as reads
+use Rattle.text.proofs.line.read_line.Reads as line
 
 slice-aggregate-read-line : tie.Need-slice-aggregate-read-line
 slice-aggregate-read-line c = search needs
@@ -40,45 +46,37 @@ returns-3 c =
     let l = c .before .before .before .before .before .read-line in
     row-told _ (a .row .now) (a .last) (row-block (a .row .now) (a .last) (l .result) (l .ensures) (not-false (l .result .right) (c .before .before .before .if1 .left)) (c .before .if2 .left) (c .if3 .taken))
 
+-- the number of a field fits its width
+fits : (c : lts.Else3 (line.Asked, line.Learnt) reads.Pre reads.Post) (k : ℕ) → k < length rowWidths
+    → getD (c .before .before .before .before .before .read-line .result .numbers) k 0 < 10 ^ getD rowWidths k 0
+fits c =
+    let a = c .before .before .before .before .before .before .before .before .args in
+    let l = c .before .before .before .before .before .read-line in
+    row-fits (a .row .now) (a .last) (l .result) (l .ensures) (not-false (l .result .right) (c .before .before .before .if1 .left))
+
 array-read-t13 : tie.Need-array-read-t13
 array-read-t13 c = search needs
 
 cast-t18 : tie.Need-cast-t18
-cast-t18 c =
-    let a = c .before .before .before .before .before .before .before .before .args in
-    let l = c .before .before .before .before .before .read-line in
-    let z = row-fits (a .row .now) (a .last) (l .result) (l .ensures) (not-false (l .result .right) (c .before .before .before .if1 .left)) 0 (omega arith) in
-    omega (arith, z)
+cast-t18 c = omega (arith, fits c 0 (omega arith))
 
 array-read-t12 : tie.Need-array-read-t12
 array-read-t12 c = search needs
 
 cast-t21 : tie.Need-cast-t21
-cast-t21 c =
-    let a = c .before .before .before .before .before .before .before .before .args in
-    let l = c .before .before .before .before .before .read-line in
-    let z = row-fits (a .row .now) (a .last) (l .result) (l .ensures) (not-false (l .result .right) (c .before .before .before .if1 .left)) 2 (omega arith) in
-    omega (arith, z)
+cast-t21 c = omega (arith, fits c 2 (omega arith))
 
 array-read-t11 : tie.Need-array-read-t11
 array-read-t11 c = search needs
 
 cast-t24 : tie.Need-cast-t24
-cast-t24 c =
-    let a = c .before .before .before .before .before .before .before .before .args in
-    let l = c .before .before .before .before .before .read-line in
-    let z = row-fits (a .row .now) (a .last) (l .result) (l .ensures) (not-false (l .result .right) (c .before .before .before .if1 .left)) 3 (omega arith) in
-    omega (arith, z)
+cast-t24 c = omega (arith, fits c 3 (omega arith))
 
 array-read-t27 : tie.Need-array-read-t27
 array-read-t27 c = search needs
 
 cast-t28 : tie.Need-cast-t28
-cast-t28 c =
-    let a = c .before .before .before .before .before .before .before .before .args in
-    let l = c .before .before .before .before .before .read-line in
-    let z = row-fits (a .row .now) (a .last) (l .result) (l .ensures) (not-false (l .result .right) (c .before .before .before .if1 .left)) 4 (omega arith) in
-    omega (arith, z)
+cast-t28 c = omega (arith, fits c 4 (omega arith))
 
 array-read-t31 : tie.Need-array-read-t31
 array-read-t31 c = search needs

@@ -1,12 +1,19 @@
 -- `files::settings_line::read_settings_line` meets its contract: the shape first, then the check of the settings.
 -- Assumes nothing.
 use mathlib.Core.Path.{sym, _∙_}
+use Prim.Native.Nat.{ℕ, _^_, _<_}
 use native.Mathlib.Omega.{arith}
+use lib.ListN.{length, getD}
 use borrow.Author.Tests.{not-true, not-false}
+use Rattle.files.specs.SettingsLine.{settingsWidths}
 use Rattle.files.proofs.SettingsLineLaws.{narrow-settings, settings-fits, settings-shape, settings-checked, settings-accepted, settings-told}
 use borrow.Author.Needs.{needs}
 use Rattle.files.proofs.settings_line.read_settings_line.Statement.{statement}
 use Rattle.files.proofs.settings_line.read_settings_line.Tie as tie
+use Rattle.files.proofs.settings_line.read_settings_line.Lts as lts
+use Rattle.files.proofs.settings_line.read_settings_line.Reads as reads
+use Rattle.text.proofs.line.read_line.Reads as line
+use Rattle.phase.proofs.settings.Settings.check.Reads as check
 
 slice-aggregate-read-line : tie.Need-slice-aggregate-read-line
 slice-aggregate-read-line c = search needs
@@ -20,75 +27,55 @@ returns c =
     let l = c .before .before .read-line in
     settings-told _ (a .line .now) (settings-shape (a .line .now) (l .result) (l .ensures) (not-true (l .result .right) (c .if1 .taken)))
 
+-- the number of a field fits its width
+fits : (c : lts.After-n (line.Asked, line.Learnt, check.Asked, check.Learnt) reads.Pre reads.Post) (k : ℕ) → k < length settingsWidths
+    → getD (c .before .before .before .read-line .result .numbers) k 0 < 10 ^ getD settingsWidths k 0
+fits c =
+    let a = c .before .before .before .before .before .before .args in
+    let l = c .before .before .before .read-line in
+    settings-fits (a .line .now) (l .result) (l .ensures) (not-false (l .result .right) (c .before .if1 .left))
+
 array-read-t12 : tie.Need-array-read-t12
 array-read-t12 c = search needs
 
 cast-t13 : tie.Need-cast-t13
-cast-t13 c =
-    let a = c .before .before .before .before .before .before .args in
-    let l = c .before .before .before .read-line in
-    let z = settings-fits (a .line .now) (l .result) (l .ensures) (not-false (l .result .right) (c .before .if1 .left)) 0 (omega arith) in
-    omega (arith, z)
+cast-t13 c = omega (arith, fits c 0 (omega arith))
 
 array-read-t16 : tie.Need-array-read-t16
 array-read-t16 c = search needs
 
 cast-t17 : tie.Need-cast-t17
-cast-t17 c =
-    let a = c .before .before .before .before .before .before .args in
-    let l = c .before .before .before .read-line in
-    let z = settings-fits (a .line .now) (l .result) (l .ensures) (not-false (l .result .right) (c .before .if1 .left)) 1 (omega arith) in
-    omega (arith, z)
+cast-t17 c = omega (arith, fits c 1 (omega arith))
 
 array-read-t20 : tie.Need-array-read-t20
 array-read-t20 c = search needs
 
 cast-t21 : tie.Need-cast-t21
-cast-t21 c =
-    let a = c .before .before .before .before .before .before .args in
-    let l = c .before .before .before .read-line in
-    let z = settings-fits (a .line .now) (l .result) (l .ensures) (not-false (l .result .right) (c .before .if1 .left)) 2 (omega arith) in
-    omega (arith, z)
+cast-t21 c = omega (arith, fits c 2 (omega arith))
 
 array-read-t24 : tie.Need-array-read-t24
 array-read-t24 c = search needs
 
 cast-t25 : tie.Need-cast-t25
-cast-t25 c =
-    let a = c .before .before .before .before .before .before .args in
-    let l = c .before .before .before .read-line in
-    let z = settings-fits (a .line .now) (l .result) (l .ensures) (not-false (l .result .right) (c .before .if1 .left)) 3 (omega arith) in
-    omega (arith, z)
+cast-t25 c = omega (arith, fits c 3 (omega arith))
 
 array-read-t28 : tie.Need-array-read-t28
 array-read-t28 c = search needs
 
 cast-t29 : tie.Need-cast-t29
-cast-t29 c =
-    let a = c .before .before .before .before .before .before .args in
-    let l = c .before .before .before .read-line in
-    let z = settings-fits (a .line .now) (l .result) (l .ensures) (not-false (l .result .right) (c .before .if1 .left)) 4 (omega arith) in
-    omega (arith, z)
+cast-t29 c = omega (arith, fits c 4 (omega arith))
 
 array-read-t32 : tie.Need-array-read-t32
 array-read-t32 c = search needs
 
 cast-t33 : tie.Need-cast-t33
-cast-t33 c =
-    let a = c .before .before .before .before .before .before .args in
-    let l = c .before .before .before .read-line in
-    let z = settings-fits (a .line .now) (l .result) (l .ensures) (not-false (l .result .right) (c .before .if1 .left)) 5 (omega arith) in
-    omega (arith, z)
+cast-t33 c = omega (arith, fits c 5 (omega arith))
 
 array-read-t36 : tie.Need-array-read-t36
 array-read-t36 c = search needs
 
 cast-t37 : tie.Need-cast-t37
-cast-t37 c =
-    let a = c .before .before .before .before .before .before .args in
-    let l = c .before .before .before .read-line in
-    let z = settings-fits (a .line .now) (l .result) (l .ensures) (not-false (l .result .right) (c .before .if1 .left)) 6 (omega arith) in
-    omega (arith, z)
+cast-t37 c = omega (arith, fits c 6 (omega arith))
 
 check-requires : tie.Need-check-requires
 check-requires c κs = search needs
