@@ -29,7 +29,9 @@ const ROOM: usize = LONGEST_LINE + PORTION;
 // Every portion is taken.
 fn take_portion(state: Replay, portion: &[u8], out: &mut [u8]) -> Fed
     requires { ⌜ (Sound state) × (portionRoom longestLine (length (now portion)) ≤ length (now out)) ⌝ }
-    ensures { λ r. ⌜ (r .taken ≡ true) × (Sound (r .state)) × (r .written ≤ length (now (out .exit))) ⌝ }
+    ensures taken { λ r. ⌜ r .taken ≡ true ⌝ }
+    ensures sound { λ r. ⌜ Sound (r .state) ⌝ }
+    ensures within { λ r. ⌜ r .written ≤ length (now (out .exit)) ⌝ }
 {
     files::feed(state, portion, out)
 }

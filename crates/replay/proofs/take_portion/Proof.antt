@@ -19,7 +19,7 @@ returns c =
     let g = c .before .before .before .before .before .before .pre in
     let f = c .before .before .feed .ensures in
     let z = sound-answer (a .state) (a .portion .now) (length (a .out .now)) (c .before .before .feed .result) (g .0) (omega (arith, g .0 .short, g .1)) (f .0) in
-    (z .0, z .1, f .1 .1)
+    (z .0, (z .1, f .1 .1))
 
 pub take-portion-spec : {M : Type 1} → statement M
 take-portion-spec = tie.close (tie.spec feed-requires same-length returns)
