@@ -16,7 +16,7 @@ abbrev pub firstFailed : List Check → ℕ → ℕ
 firstFailed [] rest = rest
 firstFailed (c ∷ checks) rest = cond (c .passes) (firstFailed checks rest) (c .number)
 
--- "The lowest number that applies to the call's arguments is given .. 0 means accepted". Every call lists its checks in the
--- order of their numbers; then the first that fails is the lowest: `lowest-is-least` of `proofs/`.
+-- "The lowest number that applies to the call's arguments is given .. 0 means accepted". Where the checks are listed in the
+-- order of their numbers, the first that fails is the lowest: `lowest-is-least` of `proofs/`.
 abbrev pub lowest : List Check → ℕ
 lowest checks = firstFailed checks 0

@@ -1,26 +1,20 @@
 // How a line of the class's tables is written.
-use libc::STDOUT_FILENO;
-
 pub(crate) fn say(text: &[u8]) {
-    io::write_all(STDOUT_FILENO, text);
+    program::write_out(text);
+}
+
+// The last digit of a number.
+fn digit(n: u64) {
+    let text = [b'0' + (n % 10) as u8];
+    say(&text);
 }
 
 // A number of at most four digits, to the right of its column.
 fn whole(n: u64) {
-    if n < 1000 {
-        say(b" ");
-    }
-    if n < 100 {
-        say(b" ");
-    }
-    if n < 10 {
-        say(b" ");
-    }
-    io::print_decimal(STDOUT_FILENO, n);
-}
-
-fn digit(n: u64) {
-    io::print_decimal(STDOUT_FILENO, n % 10);
+    place(1000 <= n, n / 1000);
+    place(100 <= n, n / 100);
+    place(10 <= n, n / 10);
+    digit(n);
 }
 
 // A time in microseconds, as seconds.

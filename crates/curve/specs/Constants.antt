@@ -8,15 +8,15 @@ use Rattle.curve.specs.declared.constants.Power.the-variants.{Fiftieth, 
 use Rattle.curve.specs.declared.constants.Constants.{Constants}
 
 -- a row of the table: the operation's number, and its constants; the power a is 0.02, a fiftieth, or 1, or 2
-pub record Row : Type 0 where
+pub record CurveRow : Type 0 where
   pub op : ℕ
   pub numbers : Constants
 
-abbrev pub row : ℕ → ℕ → ℕ → Power → ℕ → Row
+abbrev pub row : ℕ → ℕ → ℕ → Power → ℕ → CurveRow
 row op k c a kr = record { op = op; numbers = record { k = k; c = c; a = a; kr = kr } }
 
 -- Op, k, c, a, kr, name. "k and kr are in units of 0.0001 s, c in microseconds, a is the power". 0 stands for the paper's "-".
-abbrev pub curveTable : List Row
+abbrev pub curveTable : List CurveRow
 curveTable =
     row 2 1400 0 Fiftieth 0  -- IEC Inv
     ∷ row 3 135000 0 First 0  -- IEC VeryInv
@@ -36,7 +36,7 @@ pickRow true found other = found
 pickRow false found other = other
 
 -- the numbers of the row with that operation; where there is none, numbers that nothing reads
-abbrev pub numbersIn : List Row → ℕ → Constants
+abbrev pub numbersIn : List CurveRow → ℕ → Constants
 numbersIn [] op = record { k = 0; c = 0; a = First; kr = 0 }
 numbersIn (r ∷ rows) op = pickRow (eqb op (r .op)) (r .numbers) (numbersIn rows op)
 

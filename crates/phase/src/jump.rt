@@ -27,7 +27,7 @@ pub struct Jumped {
 }
 
 impl Jumped {
-    pub const COUNT_LIMIT: u32 = 3600000;
+    pub const JUMP_LIMIT: u32 = 3600000;
 }
 
 fn trip_tick(k: u32) -> TripTick
@@ -71,7 +71,7 @@ pub fn jump(settings: Settings, state: PhaseState, g: u32, count: u32) -> Jumped
     let refusal = phase_first_failed(
         settings,
         state,
-        first_failed(count <= Jumped::COUNT_LIMIT, JUMP_TOO_LONG, 0),
+        first_failed(count <= Jumped::JUMP_LIMIT, JUMP_TOO_LONG, 0),
     );
     if refusal != 0 {
         return Jumped {

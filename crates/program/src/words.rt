@@ -14,14 +14,32 @@ fn say_setting(refusal: u32) {
     }
 }
 
+// The states' and slices' numbers, 8 to 11.
+fn say_call(refusal: u32) {
+    match refusal {
+        8 => say(b"a state isn't valid"),
+        9 => say(b"the jump is over 3,600,000 ticks"),
+        10 => say(b"the lengths differ in ticks"),
+        _ => say(b"the batch is longer than 60,000 ticks"),
+    }
+}
+
+// The lines' and timers' numbers, 12 to 15.
+fn say_line(refusal: u32) {
+    match refusal {
+        12 => say(b"the line has the wrong shape"),
+        13 => say(b"the row number isn't one more than the last (the first is 1)"),
+        14 => say(b"the block field isn't 0 or 1"),
+        _ => say(b"the timer delay is over 60,000"),
+    }
+}
+
 // In the words of document 01's table.
 pub fn say_refusal(refusal: u32) {
     match refusal {
         1..=7 => say_setting(refusal),
-        8 => say(b"a state isn't valid"),
-        12 => say(b"the line has the wrong shape"),
-        13 => say(b"the row number isn't one more than the last (the first is 1)"),
-        14 => say(b"the block field isn't 0 or 1"),
-        _ => say(b"no document has this number"),
+        8..=11 => say_call(refusal),
+        12..=15 => say_line(refusal),
+        _ => say(b"the number has no words"),
     }
 }

@@ -1,6 +1,8 @@
 // The library's calls with just enough room for what they may write, and with too little.
 use crate::line::say;
 use crate::line::say_count;
+use files::END_ROOM;
+use files::LONGEST_LINE;
 use files::Replay;
 
 fn say_taken(taken: bool) {
@@ -32,12 +34,12 @@ pub(crate) fn feeds() {
     let mut large = [7u8; 100];
     feed(b"a portion of 5 bytes, room for 5", 0, &mut five);
     feed(b"a portion of 5 bytes, room for 4", 0, &mut four);
-    feed(b"a state that holds 46 bytes", 46, &mut large);
+    feed(b"a state that holds 46 bytes", LONGEST_LINE + 1, &mut large);
 }
 
 pub(crate) fn ends() {
-    let mut short = [7u8; 25];
-    let mut enough = [7u8; 26];
+    let mut short = [7u8; END_ROOM - 1];
+    let mut enough = [7u8; END_ROOM];
     end(b"an end line with room for 25: ", &mut short);
     end(b"an end line with room for 26: ", &mut enough);
 }

@@ -1,4 +1,4 @@
--- A line of numbers: fields "by commas, closed by CR LF" (01, 'Rows and the replay program').
+-- A line of numbers: fields "by commas, closed by CR LF" (01's data rows).
 use mathlib.Core.Bool.{Bool, true, false, cond, _&&_, _||_}
 use mathlib.Core.List.{List, [], _∷_, _++_}
 use Prim.Native.Nat.{ℕ, _-_}

@@ -1,4 +1,4 @@
--- The lines of a stream (01, 'Rows and the replay program'), closed by CR LF or by LF alone.
+-- The lines of a stream (01's data rows), closed by CR LF or by LF alone.
 use mathlib.Core.Bool.{Bool, false, cond, _||_}
 use mathlib.Core.List.{List, [], _∷_, _++_}
 use Prim.Native.Nat.{ℕ}

@@ -1,4 +1,4 @@
--- Numbers in text: digits and decimals (01, 'Rows and the replay program').
+-- Numbers in text: digits and decimals (01's data rows).
 use mathlib.Core.Bool.{Bool, true, cond, _&&_}
 use mathlib.Core.List.{List, [], _∷_, _++_}
 use Prim.Native.Nat.{ℕ, zero, suc, _+_, _-_, _*_, _/_, _%_}

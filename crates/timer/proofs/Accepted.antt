@@ -17,7 +17,7 @@ use Rattle.timer.specs.Timer.{timerAnswer}
 use Rattle.timer.specs.declared.answer.Timed.{Timed}
 use Rattle.timer.specs.declared.inputs.Inputs.{Inputs}
 use Rattle.timer.specs.declared.state.TimerState.{TimerState}
-use Rattle.timer.proofs.Runs.{outputs, stateAfter, WithoutReset}
+use Rattle.timer.proofs.Runs.{outputs, timerAfter, WithoutReset}
 
 -- ---- one call
 
@@ -99,12 +99,12 @@ ruledBy rule d state inputs = byRule (rule (inputOf inputs)) d state
 -- from a valid state, with a delay that fits and without reset, a run goes by the rule alone
 pub record GoesByRule (rule : Bool → Rule) (d : ℕ) (state : TimerState) (ticks : List Inputs) : Type 0 where
   pub outputs-same : outputs (answerBy rule d) state ticks ≡ outputs (ruledBy rule d) state ticks
-  pub state-same : stateAfter (answerBy rule d) state ticks ≡ stateAfter (ruledBy rule d) state ticks
-  pub leaves-valid : validTimer (stateAfter (ruledBy rule d) state ticks) ≡ true
+  pub state-same : timerAfter (answerBy rule d) state ticks ≡ timerAfter (ruledBy rule d) state ticks
+  pub leaves-valid : validTimer (timerAfter (ruledBy rule d) state ticks) ≡ true
 
 pub run-goes-by-rule : (rule : Bool → Rule) (d : ℕ) (state : TimerState) (ticks : List Inputs)
     → validTimer state ≡ true → leb d delayLimit ≡ true → WithoutReset ticks → GoesByRule rule d state ticks
-unfolding outputs stateAfter WithoutReset
+unfolding outputs timerAfter WithoutReset
 run-goes-by-rule rule d state [] valid fits none = record { outputs-same = refl; state-same = refl; leaves-valid = valid }
 run-goes-by-rule rule d state (inputs ∷ rest) valid fits none =
     let next = byRule (rule (inputOf inputs)) d state .state in

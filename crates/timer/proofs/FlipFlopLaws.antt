@@ -15,7 +15,7 @@ use Rattle.timer.specs.declared.state.TimerState.{TimerState}
 use Rattle.timer.proofs.Accepted.{byRule, accepted-gives-ruled, reset-makes-fresh, rule-leaves-valid}
 use Rattle.timer.proofs.Accepted.Rule.{flipFlop}
 use Rattle.timer.proofs.Counting.{onInARow, counted-in-a-row, over-d-is-latest-on}
-use Rattle.timer.proofs.Runs.{outputs, stateAfter, eachTick, latchedSoFar, SetTrip, flipFlopBy, onThroughout}
+use Rattle.timer.proofs.Runs.{outputs, timerAfter, eachTick, latchedSoFar, SetTrip, flipFlopBy, onThroughout}
 
 -- Without reset, the flip-flop is on exactly while it is latched.
 pub flip-flop-on-is-latched : (d : ℕ) (state : TimerState) (inputs : SetTrip) → leb d delayLimit ≡ true
@@ -33,12 +33,12 @@ latched-tick d state inputs fits valid latch =
 -- once latched
 pub record StaysOn (d : ℕ) (state : TimerState) (ticks : List SetTrip) : Type 0 where
   pub on-throughout : outputs (flipFlopBy d) state ticks ≡ onThroughout ticks
-  pub still-latched : stateAfter (flipFlopBy d) state ticks .latch ≡ true
+  pub still-latched : timerAfter (flipFlopBy d) state ticks .latch ≡ true
 
 -- Once latched, the flip-flop stays on and latched until a reset, whatever its set and trip inputs do.
 pub flip-flop-stays-on-until-reset : (d : ℕ) (state : TimerState) → leb d delayLimit ≡ true → validTimer state ≡ true
     → state .latch ≡ true → (ticks : List SetTrip) → StaysOn d state ticks
-unfolding outputs stateAfter
+unfolding outputs timerAfter
 flip-flop-stays-on-until-reset d state fits valid latch [] = record { on-throughout = refl; still-latched = latch }
 flip-flop-stays-on-until-reset d state fits valid latch (inputs ∷ rest) =
     let next = withCount (counted (inputs .set) (state .count)) state in
@@ -47,7 +47,7 @@ flip-flop-stays-on-until-reset d state fits valid latch (inputs ∷ rest) =
     let tick = latched-tick d state inputs fits valid latch in
     record {
       on-throughout = rw (outputs, tick, then .on-throughout);
-      still-latched = rw (stateAfter, tick) (then .still-latched);
+      still-latched = rw (timerAfter, tick) (then .still-latched);
     }
 
 -- A reset makes it off and fresh, whatever its set and trip inputs are.

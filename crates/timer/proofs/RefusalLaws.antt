@@ -12,5 +12,5 @@ pub timer-checks-rise : (state : TimerState) (d : ℕ) → rising 0 (timerChecks
 timer-checks-rise state d = refl
 
 -- 0 exactly where the state is valid and the delay fits; else 8 or 15, and 8 where both apply.
-pub timer-refusal-is-lowest : (state : TimerState) (d : ℕ) → IsLowest (timerRefusal state d) (timerChecks state d)
-timer-refusal-is-lowest state d = lowest-is-least (timerChecks state d) (timer-checks-rise state d)
+pub timer-refusal-lowest : (state : TimerState) (d : ℕ) → IsLowest (timerRefusal state d) (timerChecks state d)
+timer-refusal-lowest state d = lowest-is-least (timerChecks state d) (timer-checks-rise state d)

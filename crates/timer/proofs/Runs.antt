@@ -17,9 +17,9 @@ outputs answer state [] = []
 outputs answer state (inputs ∷ rest) = answer state inputs .on ∷ outputs answer (answer state inputs .state) rest
 
 -- the state that the last tick leaves
-unfoldable pub stateAfter : {I : Type 0} → (TimerState → I → Timed) → TimerState → List I → TimerState
-stateAfter answer state [] = state
-stateAfter answer state (inputs ∷ rest) = stateAfter answer (answer state inputs .state) rest
+unfoldable pub timerAfter : {I : Type 0} → (TimerState → I → Timed) → TimerState → List I → TimerState
+timerAfter answer state [] = state
+timerAfter answer state (inputs ∷ rest) = timerAfter answer (answer state inputs .state) rest
 
 -- 01, 'Class examples': "without reset"
 unfoldable pub WithoutReset : List Inputs → Type 0
