@@ -91,12 +91,22 @@ module _ (w n v p : ℕ) (s : List ℕ) where
           let z : (m : ℕ) → n + suc m ≡ n + 1 + m = λ m. omega arith in
           rw (split, drop-cons s p 0 k, le-leb 48 (getD s p 0) a, le-leb (getD s p 0) 57 b, z, add-one p)
 
+-- n digits stand at the place, they give v, and what is left gives the whole
+pub record DigitsRead (s : List ℕ) (at width n v : ℕ) : Type 0 where
+  pub few : n ≤ width
+  pub within : at + n ≤ length s
+  pub small : v < 10 ^ n
+  pub whole : digitsFrom n v (leading (width - n) (drop (at + n) s)) ≡ digitsFrom 0 0 (leading width (drop at s))
+
 -- nine digits and one more fit in 64 bits
 pub nine-digits : (v n : ℕ) → v < 10 ^ n → n < 10 → v < 1000000000
 nine-digits v n h k = let l : n ≤ 9 = omega arith in omega (arith, pow-le-pow-right {n = 10} (omega arith) l)
 
-pub digits-none : (s : List ℕ) (at w : ℕ) → (0 < 10 ^ 0) × (digitsFrom 0 0 (leading (w - 0) (drop (at + 0) s)) ≡ digitsFrom 0 0 (leading w (drop at s)))
-digits-none s at w = let e : w - 0 ≡ w = omega arith in let f : at + 0 ≡ at = omega arith in (lit< tt, rw (e, f))
+pub digits-none : (s : List ℕ) (at w : ℕ) → at ≤ length s → DigitsRead s at w 0 0
+digits-none s at w h =
+    let e : w - 0 ≡ w = omega arith in
+    let f : at + 0 ≡ at = omega arith in
+    record { few = omega arith; within = omega arith; small = lit< tt; whole = rw (e, f) }
 
 -- a turn, in the reader's own terms
 pub digits-again : (w n v at : ℕ) (s : List ℕ) → n < w → at + n < length s → 48 ≤ getD s (at + n) 0 → getD s (at + n) 0 ≤ 57

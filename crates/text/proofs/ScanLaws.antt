@@ -13,7 +13,7 @@ use lib.ListN.{length, getD, drop, set, length-drop, drop-of-length-le, List·ge
 use lib.Seq.{sets, drop-cons, drop-length, drop-drop, getD-drop}
 use borrow.Author.Tests.{le-leb, leb-true, eq-eqb, ne-eqb, eqb-true, eqb-false}
 use Rattle.text.specs.Number.{leading, valueOf, digitLimit}
-use Rattle.text.specs.Line.{isLf, narrow}
+use Rattle.text.specs.Line.{isLf, narrow, fieldLimit, placed}
 use Rattle.text.proofs.Cases.{by-cond}
 use Rattle.checks.proofs.Tests.{both-true}
 use Rattle.text.proofs.DigitLaws.{leading-length, value-small}
@@ -98,6 +98,13 @@ closed-within s p true e = lt-of-not-le (λ l. omega (arith, List·getD-eq-defau
 closed-within s p false e = lt-of-not-le (λ l. omega (arith, List·getD-eq-default s 0 l))
 
 -- ---- a turn of the reader, at field k and place at: what is left gives the whole
+
+pub record FieldsRead (ws s : List ℕ) (at k : ℕ) (numbers : List ℕ) : Type 0 where
+  pub within : at ≤ length s
+  pub few : k ≤ length ws
+  pub room : length numbers ≡ fieldLimit
+  pub shape : scans (drop k ws) (drop at s) ≡ scans ws s
+  pub whole : sets numbers k (scanned (drop k ws) (drop at s)) ≡ placed (scanned ws s)
 
 module _ (ws s : List ℕ) (k at : ℕ) (h : k < length ws) where
   abbrev here : ℕ

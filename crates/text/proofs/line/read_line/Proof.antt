@@ -1,24 +1,19 @@
 -- `text::line::read_line` meets its contract: a turn of the loop is a field, and what is left gives the whole.
 -- Assumes nothing.
-use mathlib.Core.Path.{_≡_, sym, ap, _∙_}
-use Prim.Native.Nat.{_-_, _≤_}
+use mathlib.Core.Path.{sym, ap, _∙_}
+use Prim.Native.Nat.{_-_}
 use native.Mathlib.Omega.{arith}
 use lib.ListN.{length, getD, drop, length-set}
-use lib.Seq.{sets}
 use borrow.Author.Needs.{needs}
 use Rattle.text.specs.declared.number.Digits.{Digits}
-use Rattle.text.specs.Line.{fieldLimit, placed}
 use Rattle.text.proofs.DigitLaws.{digits-count}
-use Rattle.text.proofs.ScanLaws.{scans, scanned, narrow-at, turn-empty, turn-open, turn-shape, turn-numbers, end-numbers, end-long, end-other, end-right, field-closes}
+use Rattle.text.proofs.ScanLaws.{FieldsRead, narrow-at, turn-empty, turn-open, turn-shape, turn-numbers, end-numbers, end-long, end-other, end-right, field-closes}
 use Rattle.text.proofs.LineLaws.{line-wrong, line-right}
 use Rattle.text.proofs.line.read_line.Statement.{statement}
 use Rattle.text.proofs.line.read_line.Tie as tie
 
 abbrev Inv-loop : tie.InvT-loop
-Inv-loop s widths at₀ k₀ numbers₀ at k numbers =
-    (at ≤ length s) × (k ≤ length widths) × (length numbers ≡ fieldLimit)
-    × (scans (drop k widths) (drop at s) ≡ scans widths s)
-    × (sets numbers k (scanned (drop k widths) (drop at s)) ≡ placed (scanned widths s))
+Inv-loop s widths at₀ k₀ numbers₀ at k numbers = FieldsRead widths s at k numbers
 
 abbrev μ-loop : tie.MeasureT-loop
 μ-loop s widths at₀ k₀ numbers₀ at k numbers = length widths - k
@@ -49,7 +44,7 @@ returns c =
     let s = c .before .before .before .before .before .before .before .before .before .args .s .now in
     let d = c .before .before .before .read-digits in
     let e = digits-count (d .result) (getD ws (l .k) 0) (drop (l .at) s) (d .ensures .0) in
-    c .wrong .ensures ∙ line-wrong ws s (omega arith) (sym (l .inv .3) ∙ turn-empty ws s (l .k) (l .at) (omega arith) (omega arith))
+    c .wrong .ensures ∙ line-wrong ws s (omega arith) (sym (l .inv .shape) ∙ turn-empty ws s (l .k) (l .at) (omega arith) (omega arith))
 
 add-end : tie.Need-add-end Inv-loop μ-loop
 add-end c = search needs
@@ -73,7 +68,7 @@ returns-2 c =
     let s = c .before .before .before .before .before .before .before .before .before .before .before .before .before .args .s .now in
     let d = c .before .before .before .before .before .before .before .read-digits in
     let e = digits-count (d .result) (getD ws (l .k) 0) (drop (l .at) s) (d .ensures .0) in
-    c .wrong2 .ensures ∙ line-wrong ws s (omega arith) (sym (l .inv .3) ∙ turn-open ws s (l .k) (l .at) (omega arith) (λ q. c .before .if2 .taken (c .before .before .before .byte-at .ensures ∙ rw e q ∙ sym (c .before .before .field-closer .ensures))))
+    c .wrong2 .ensures ∙ line-wrong ws s (omega arith) (sym (l .inv .shape) ∙ turn-open ws s (l .k) (l .at) (omega arith) (λ q. c .before .if2 .taken (c .before .before .before .byte-at .ensures ∙ rw e q ∙ sym (c .before .before .field-closer .ensures))))
 
 mul-numbers : tie.Need-mul-numbers Inv-loop μ-loop
 mul-numbers c = search needs
@@ -101,13 +96,14 @@ loop-again c =
     let s = c .before .before .before .before .before .before .before .before .before .before .before .before .args .s .now in
     let d = c .before .before .before .before .before .before .read-digits in
     let e = digits-count (d .result) (getD ws (l .k) 0) (drop (l .at) s) (d .ensures .0) in
-    let q = field-closes ws s (l .k) (l .at) (omega arith) _ _ _ e (c .before .before .byte-at .ensures) (c .before .field-closer .ensures) (c .if2 .left) in (
-      omega arith,
-      omega arith,
-      simp length-set (omega arith),
-      rw e (sym (turn-shape ws s (l .k) (l .at) (omega arith) (omega arith) (q .0)) ∙ l .inv .3),
-      rw (e, ap (λ (x : Digits). x .value) (d .ensures .0)) (sym (turn-numbers ws s (l .k) (l .at) (omega arith) (l .numbers)) ∙ l .inv .4),
-    )
+    let q = field-closes ws s (l .k) (l .at) (omega arith) _ _ _ e (c .before .before .byte-at .ensures) (c .before .field-closer .ensures) (c .if2 .left) in
+    record {
+      within = omega arith;
+      few = omega arith;
+      room = simp length-set (omega arith);
+      shape = rw e (sym (turn-shape ws s (l .k) (l .at) (omega arith) (omega arith) (q .0)) ∙ l .inv .shape);
+      whole = rw (e, ap (λ (x : Digits). x .value) (d .ensures .0)) (sym (turn-numbers ws s (l .k) (l .at) (omega arith) (l .numbers)) ∙ l .inv .whole);
+    }
 
 add-if3 : tie.Need-add-if3 Inv-loop μ-loop
 add-if3 c = search needs
@@ -120,7 +116,7 @@ returns-3 c =
     let l = c .before .before .before .loop in
     let ws = c .before .before .before .before .before .before .args .widths .now in
     let s = c .before .before .before .before .before .before .args .s .now in
-    c .wrong3 .ensures ∙ line-wrong ws s (omega arith) (sym (l .inv .3) ∙ end-long ws s (l .k) (l .at) (omega arith) (omega arith) (c .before .if3 .taken))
+    c .wrong3 .ensures ∙ line-wrong ws s (omega arith) (sym (l .inv .shape) ∙ end-long ws s (l .k) (l .at) (omega arith) (omega arith) (c .before .if3 .taken))
 
 shared-slice-read-if4 : tie.Need-shared-slice-read-if4 Inv-loop μ-loop
 shared-slice-read-if4 c = search needs
@@ -133,14 +129,14 @@ returns-4 c =
     let l = c .before .before .before .before .before .loop in
     let ws = c .before .before .before .before .before .before .before .before .args .widths .now in
     let s = c .before .before .before .before .before .before .before .before .args .s .now in
-    c .wrong4 .ensures ∙ line-wrong ws s (omega arith) (sym (l .inv .3) ∙ end-other ws s (l .k) (l .at) (omega arith) (omega arith) (c .before .if4 .taken))
+    c .wrong4 .ensures ∙ line-wrong ws s (omega arith) (sym (l .inv .shape) ∙ end-other ws s (l .k) (l .at) (omega arith) (omega arith) (c .before .if4 .taken))
 
 returns-5 : tie.Need-returns-5 Inv-loop μ-loop
 returns-5 c =
     let l = c .before .before .before .before .loop in
     let ws = c .before .before .before .before .before .before .before .args .widths .now in
     let s = c .before .before .before .before .before .before .before .args .s .now in
-    line-right ws s (omega arith) (l .numbers) (sym (l .inv .3) ∙ end-right ws s (l .k) (l .at) (omega arith) (omega arith) (omega arith)) (sym (end-numbers ws s (l .k) (l .at) (omega arith) (l .numbers)) ∙ l .inv .4)
+    line-right ws s (omega arith) (l .numbers) (sym (l .inv .shape) ∙ end-right ws s (l .k) (l .at) (omega arith) (omega arith) (omega arith)) (sym (end-numbers ws s (l .k) (l .at) (omega arith) (l .numbers)) ∙ l .inv .whole)
 
 pub read-line-spec : {M : Type 1} → statement M
 read-line-spec =
