@@ -7,12 +7,11 @@ use Prim.Native.Nat.{ℕ, _+_, _≤_, _<_}
 use native.Mathlib.Omega.{arith}
 use lib.Dec.{leb, ltb}
 use lib.ListN.{length}
-use borrow.Author.Tests.{eq-eqb, ne-eqb, le-leb, lt-leb, lt-ltb, leb-true, ltb-true}
+use borrow.Author.Tests.{le-leb, lt-leb, lt-ltb, leb-true, ltb-true}
 use Rattle.files.specs.declared.replay.Replay.{Replay}
 use Rattle.files.specs.declared.replay.Fed.{Fed}
 use Rattle.text.specs.Lines.{joined}
 use Rattle.files.specs.Output.{endRoom}
-use Rattle.files.specs.Progress.{endOf, refuse}
 use Rattle.files.specs.Replay.{replayOf, longestLine, lineLimit, freshReplay, portionRoom, fed, writes, takes, fedBy, fedIf, feedAnswer, writesIf, feedWrites, endsWith, finishIf, finishWrites}
 use Rattle.files.specs.device.Calls.{Sound}
 use Rattle.checks.proofs.Tests.{both-true}

@@ -62,6 +62,15 @@ pub record Reached (r : Replay) (p : List ℕ) (before : List ℕ) (i : ℕ) (s 
   pub place : at ≡ length (writes r (take i p))
   pub bytes : out ≡ sets before 0 (writes r (take i p))
 
+-- what holds of a portion at its byte i
+pub record FeedTurn (r : Replay) (p before : List ℕ) (i : ℕ) (s : Replay) (at : ℕ) (out : List ℕ) : Type 0 where
+  pub within : i ≤ length p
+  pub long : length out ≡ length before
+  pub room : length (s .held) ≡ lineLimit
+  pub short : s .count < lineLimit
+  pub little : at + s .count ≤ r .count + i
+  pub reached : Reached r p before i s at out
+
 pub reached-none : (r : Replay) (p out : List ℕ) → Reached r p out 0 r 0 out
 unfolding fed writes
 reached-none r p out = record { state = refl; place = refl; bytes = refl }

@@ -1,7 +1,8 @@
 -- `replay_cases::run::replay` meets its contract.
 -- Assumes nothing.
 use mathlib.Core.Path.{_≡_, ap}
-use Prim.Native.Nat.{_-_, _≤_}
+use mathlib.Core.List.{List}
+use Prim.Native.Nat.{ℕ, _-_, _≤_}
 use native.Mathlib.Omega.{arith}
 use lib.ListN.{length, length-take, length-drop}
 use lib.Seq.{length-sets}
@@ -9,8 +10,14 @@ use borrow.Author.Needs.{needs}
 use Rattle.replay_cases.proofs.run.replay.Statement.{statement}
 use Rattle.replay_cases.proofs.run.replay.Tie as tie
 
+-- the input is fed up to i, and what that wrote ends at `at`
+record ReplayTurn (input before : List ℕ) (i : ℕ) (out : List ℕ) (at : ℕ) : Type 0 where
+  within : i ≤ length input
+  long : length out ≡ length before
+  room : at ≤ length out
+
 abbrev Inv-loop : tie.InvT-loop
-Inv-loop input cut step out₀ state₀ i₀ at₀ out state i at = (i ≤ length input) × (length out ≡ length out₀) × (at ≤ length out)
+Inv-loop input cut step out₀ state₀ i₀ at₀ out state i at = ReplayTurn input out₀ i out at
 
 abbrev μ-loop : tie.MeasureT-loop
 μ-loop input cut step out₀ state₀ i₀ at₀ out state i at = length input - i
@@ -50,7 +57,7 @@ add-at c =
     let t = c .before .before .before .before .feed in
     let k = simp (length-sets, length-take, length-drop) at (ap length (t .ensures .1 .0)) in
     let l = c .before .before .before .before .before .before .before .before .before .loop in
-    omega (arith, t .ensures .1 .1, k, l .inv .1, l .inv .2, c .before .before .before .before .before .before .before .before .before .before .before .before .before .pre)
+    omega (arith, t .ensures .1 .1, k, l .inv, c .before .before .before .before .before .before .before .before .before .before .before .before .before .pre)
 
 loop-less : tie.Need-loop-less Inv-loop μ-loop
 loop-less c = search needs
