@@ -6,33 +6,26 @@ use mathlib.Core.List.{List, [], _∷_, _++_, append-assoc, append-nil}
 use Prim.Native.Nat.{ℕ, _+_, _≤_, _<_}
 use native.Mathlib.Numerals.{add-one}
 use native.Mathlib.Omega.{arith}
-use lib.ListN.{length, getD, take, set, length-append, length-set}
+use lib.ListN.{length, getD, take, length-append, length-set, length-take}
 use lib.Seq.{sets, length-sets, take-suc, take-all}
 use Rattle.files.specs.declared.progress.Progress.{Progress}
 use Rattle.files.specs.declared.progress.Noted.{Noted}
 use Rattle.files.specs.declared.replay.Replay.{Replay}
+use Rattle.files.specs.declared.replay.Fed.{Fed}
 use Rattle.text.specs.declared.lines.Closer.the-variants.{CrLf}
 use Rattle.text.specs.declared.lines.Cut.{Cut}
 use Rattle.text.specs.declared.lines.Cut.the-variants.{Held, Closed, TooLong}
 use Rattle.files.specs.Progress.{afterLine, wroteLine, refuse}
-use Rattle.files.specs.device.Calls.{notedOf}
-use Rattle.files.specs.Replay.{lineLimit, nextLine, nextCut, fedByteBy, wroteByteBy, fedByte, wroteByte, fed, writes, fedBy}
+use Rattle.files.specs.device.Calls.{LineNoted, PortionFed}
+use Rattle.files.specs.Replay.{lineLimit, nextLine, nextCut, fedByteBy, wroteByteBy, fedByte, wroteByte, fed, writes}
+use Rattle.text.specs.device.Calls.{ByteCut}
 use Rattle.text.proofs.StoreLaws.{sets-append}
 use Rattle.text.proofs.CutLaws.{next-length, held-not-full}
 use Rattle.files.proofs.PortionLaws.{next-held}
 
-pub stored-length : (out out' xs : List ℕ) (at n : ℕ) → out' ≡ sets out at xs → length out ≡ n → length out' ≡ n
-stored-length out out' xs at n e h = rw (e, length-sets) h
-
-pub same-room : (held held' : List ℕ) (n b : ℕ) → held' ≡ set held n b → length held ≡ lineLimit → length held' ≡ lineLimit
-same-room held held' n b e h = rw (e, length-set) h
-
--- a line that is still held is not too long
-pub held-short : (s : Replay) (b : ℕ) → s .count + 1 ≤ lineLimit → length (s .held) ≡ lineLimit → (cut : Cut) → cut ≡ Held → cut ≡ nextCut s b → s .count + 1 < lineLimit
-held-short s b short room cut told is =
-    let n = next-length CrLf lineLimit (s .count) b (s .held) (omega arith) in
-    let k = held-not-full CrLf lineLimit (nextLine s b) (sym is ∙ told) in
-    omega (arith, k, n)
+-- the bytes held stay as many
+pub same-room : (limit n b : ℕ) (held held' : List ℕ) (cut : Cut) → ByteCut CrLf limit n b held held' cut → length held ≡ lineLimit → length held' ≡ lineLimit
+same-room limit n b held held' cut c h = rw (c .held, length-set) h
 
 -- ---- a portion with one more at the end
 
@@ -62,16 +55,7 @@ pub record Reached (r : Replay) (p : List ℕ) (before : List ℕ) (i : ℕ) (s 
   pub place : at ≡ length (writes r (take i p))
   pub bytes : out ≡ sets before 0 (writes r (take i p))
 
--- what holds of a portion at its byte i
-pub record FeedTurn (r : Replay) (p before : List ℕ) (i : ℕ) (s : Replay) (at : ℕ) (out : List ℕ) : Type 0 where
-  pub within : i ≤ length p
-  pub long : length out ≡ length before
-  pub room : length (s .held) ≡ lineLimit
-  pub short : s .count < lineLimit
-  pub little : at + s .count ≤ r .count + i
-  pub reached : Reached r p before i s at out
-
-pub reached-none : (r : Replay) (p out : List ℕ) → Reached r p out 0 r 0 out
+reached-none : (r : Replay) (p out : List ℕ) → Reached r p out 0 r 0 out
 unfolding fed writes
 reached-none r p out = record { state = refl; place = refl; bytes = refl }
 
@@ -97,41 +81,89 @@ module _ (r : Replay) (p before : List ℕ) (i : ℕ) (s : Replay) (at : ℕ) (o
             ∙ ap (sets before 0) (sym m);
       }
 
-  -- the bytes held after it
-  module _ (held : List ℕ) (q : held ≡ set (s .held) (s .count) byte) where
-    module _ (short : s .count + 1 ≤ lineLimit) (room : length (s .held) ≡ lineLimit) where
-      abbrev line : List ℕ
-      line = take (s .count + 1) held
+-- ---- what holds of a portion at its byte i: at first, one byte further, and at its end
 
-      same-line : line ≡ nextLine s byte
-      same-line = ap (take (s .count + 1)) q ∙ next-held s byte short room
+pub record FeedTurn (r : Replay) (p before : List ℕ) (i : ℕ) (s : Replay) (at : ℕ) (out : List ℕ) : Type 0 where
+  pub within : i ≤ length p
+  pub long : length out ≡ length before
+  pub room : length (s .held) ≡ lineLimit
+  pub short : s .count < lineLimit
+  pub little : at + s .count ≤ r .count + i
+  pub reached : Reached r p before i s at out
 
-      pub reached-closed : (cut : Cut) → cut ≡ Closed → cut ≡ nextCut s byte → (t : Noted) (out' : List ℕ) → t ≡ notedOf (afterLine (s .progress) line) (wroteLine (s .progress) line) at
-          → out' ≡ sets out at (wroteLine (s .progress) line)
-          → Reached r p before (i + 1) (record { progress = t .progress; held = held; count = 0 }) (t .written) out'
-      unfolding fedByteBy wroteByteBy
-      reached-closed cut told is t out' f g =
-          let e : Closed ≡ nextCut s byte = sym told ∙ is in
-          reached-byte (record { progress = t .progress; held = held; count = 0 }) (t .written) out'
-          (rw (← e, f, same-line, q)) (rw (← e, f, same-line)) (rw (← e, ← same-line) g)
+pub turn-first : (r : Replay) (p out : List ℕ) → length (r .held) ≡ lineLimit → r .count < lineLimit → FeedTurn r p out 0 r 0 out
+turn-first r p out room short =
+    record { within = omega arith; long = refl; room = room; short = short; little = omega arith; reached = reached-none r p out }
 
-    pub reached-filled : (cut : Cut) → cut ≡ TooLong → cut ≡ nextCut s byte → (x : Progress) → x ≡ refuse (s .progress)
-        → Reached r p before (i + 1) (record { progress = x; held = held; count = 0 }) at out
-    unfolding fedByteBy wroteByteBy
-    reached-filled cut told is x g =
-        let e : TooLong ≡ nextCut s byte = sym told ∙ is in
-        let z : at ≡ at + 0 = omega arith in
-        reached-byte (record { progress = x; held = held; count = 0 }) at out (rw (← e, g, q)) (rw (← e) z) (rw (← e))
+module _ (r : Replay) (p before : List ℕ) (i : ℕ) (s : Replay) (at : ℕ) (out : List ℕ) (turn : FeedTurn r p before i s at out) (k : i < length p)
+    (held : List ℕ) (cut : Cut) (c : ByteCut CrLf lineLimit (s .count) (getD p i 0) (s .held) held cut) where
+  abbrev line : List ℕ
+  line = take (s .count + 1) held
 
-    pub reached-held : (cut : Cut) → cut ≡ Held → cut ≡ nextCut s byte → Reached r p before (i + 1) (record { progress = s .progress; held = held; count = s .count + 1 }) at out
-    unfolding fedByteBy wroteByteBy
-    reached-held cut told is =
-        let e : Held ≡ nextCut s byte = sym told ∙ is in
-        let z : at ≡ at + 0 = omega arith in
-        reached-byte (record { progress = s .progress; held = held; count = s .count + 1 }) at out (rw (← e, q)) (rw (← e) z) (rw (← e))
+  room-after : length held ≡ lineLimit
+  room-after = same-room lineLimit (s .count) (getD p i 0) (s .held) held cut c (turn .room)
 
-pub reached-all : (r : Replay) (p before : List ℕ) (i : ℕ) (s : Replay) (at : ℕ) (out : List ℕ) → length p ≤ i → Reached r p before i s at out
-    → (record { taken = true; state = s; written = at } ≡ fedBy r p) × (out ≡ sets before 0 (writes r p))
-reached-all r p before i s at out l h =
+  same-line : line ≡ nextLine s (getD p i 0)
+  same-line = ap (take (s .count + 1)) (c .held) ∙ next-held s (getD p i 0) (omega (arith, turn .short)) (turn .room)
+
+  -- a line that is still held is not too long
+  held-short : cut ≡ Held → s .count + 1 < lineLimit
+  held-short told =
+      let n = next-length CrLf lineLimit (s .count) (getD p i 0) (s .held) (omega (arith, turn .short, turn .room)) in
+      let f = held-not-full CrLf lineLimit (nextLine s (getD p i 0)) (sym (c .cut) ∙ told) in
+      omega (arith, f, n, turn .short)
+
+  pub turn-held : cut ≡ Held → FeedTurn r p before (i + 1) (record { progress = s .progress; held = held; count = s .count + 1 }) at out
+  unfolding fedByteBy wroteByteBy
+  turn-held told =
+      let e : Held ≡ nextCut s (getD p i 0) = sym told ∙ c .cut in
+      let z : at ≡ at + 0 = omega arith in
+      record {
+        within = omega arith;
+        long = turn .long;
+        room = room-after;
+        short = held-short told;
+        little = omega (arith, turn .little);
+        reached = reached-byte r p before i s at out k (turn .reached) (record { progress = s .progress; held = held; count = s .count + 1 }) at out (rw (← e, c .held)) (rw (← e) z) (rw (← e));
+      }
+
+  pub turn-closed : cut ≡ Closed → (t : Noted) (out' : List ℕ) → LineNoted (length line) out out' at (afterLine (s .progress) line) (wroteLine (s .progress) line) t
+      → FeedTurn r p before (i + 1) (record { progress = t .progress; held = held; count = 0 }) (t .written) out'
+  unfolding fedByteBy wroteByteBy
+  turn-closed told t out' n =
+      let e : Closed ≡ nextCut s (getD p i 0) = sym told ∙ c .cut in
+      let l : length line ≤ s .count + 1 = simp length-take (omega arith) in
+      record {
+        within = omega arith;
+        long = rw (n .output, length-sets) (turn .long);
+        room = room-after;
+        short = omega arith;
+        little = omega (arith, n .short, l, turn .little);
+        reached = reached-byte r p before i s at out k (turn .reached) (record { progress = t .progress; held = held; count = 0 }) (t .written) out'
+            (rw (← e, n .noted, same-line, c .held)) (rw (← e, n .noted, same-line)) (rw (← e, ← same-line) (n .output));
+      }
+
+  pub turn-filled : cut ≡ TooLong → (x : Progress) → x ≡ refuse (s .progress) → FeedTurn r p before (i + 1) (record { progress = x; held = held; count = 0 }) at out
+  unfolding fedByteBy wroteByteBy
+  turn-filled told x g =
+      let e : TooLong ≡ nextCut s (getD p i 0) = sym told ∙ c .cut in
+      let z : at ≡ at + 0 = omega arith in
+      record {
+        within = omega arith;
+        long = turn .long;
+        room = room-after;
+        short = omega arith;
+        little = omega (arith, turn .little);
+        reached = reached-byte r p before i s at out k (turn .reached) (record { progress = x; held = held; count = 0 }) at out (rw (← e, g, c .held)) (rw (← e) z) (rw (← e));
+      }
+
+pub turn-last : (r : Replay) (p before : List ℕ) (i : ℕ) (s : Replay) (at : ℕ) (out : List ℕ) (x : Fed) → FeedTurn r p before i s at out → length p ≤ i
+    → x ≡ record { taken = true; state = s; written = at } → PortionFed r p before out x
+turn-last r p before i s at out x turn l e =
     let z : take i p ≡ p = take-all i p l in
-    (rw (h .state, h .place, z), rw z at (h .bytes))
+    let h = turn .reached in
+    record {
+      answer = e ∙ rw (h .state, h .place, z);
+      output = rw z at (h .bytes);
+      within = rw e (omega (arith, turn .little, turn .within));
+    }

@@ -13,7 +13,8 @@ use Rattle.files.specs.declared.row.Row.{Row}
 use Rattle.files.specs.declared.row.RowRead.{RowRead}
 use Rattle.files.specs.declared.row.RowRead.the-variants.{Accepted, Refused}
 use Rattle.text.specs.Number.{decimal}
-use Rattle.text.specs.Line.{narrow, rightShape, numbersOf, lineAnswer, fitsIn, written}
+use Rattle.text.specs.Line.{rightShape, numbersOf, lineAnswer, fitsIn, written}
+use Rattle.text.specs.device.Calls.{Readable}
 use Rattle.files.specs.Output.{changeRoom}
 use Rattle.files.specs.Row.{lastRow, rowWidths, rowOf, rowRefusal, rowAnswer, rowNumber}
 use Rattle.text.proofs.Cases.{by-cond}
@@ -22,8 +23,8 @@ use Rattle.text.proofs.DecimalLaws.{decimal-back}
 use Rattle.text.proofs.ShapeLaws.{shape-least, number-below, fits-none, fits-decimal, written-right, written-numbers}
 use Rattle.text.proofs.LineLaws.{line-shape, line-number}
 
-pub narrow-row : narrow rowWidths ≡ true
-narrow-row = refl
+pub row-readable : Readable rowWidths
+row-readable = record { some = omega arith; few = omega arith; each = refl }
 
 -- ---- the answer, by the tests
 

@@ -11,13 +11,14 @@ use Rattle.phase.specs.Settings.{settingsRefusal}
 use Rattle.text.specs.declared.line.Line.{Line}
 use Rattle.files.specs.declared.settings_line.SettingsRead.{SettingsRead}
 use Rattle.files.specs.declared.settings_line.SettingsRead.the-variants.{Accepted, Refused}
-use Rattle.text.specs.Line.{narrow, numbersOf, lineAnswer}
+use Rattle.text.specs.Line.{numbersOf, lineAnswer}
+use Rattle.text.specs.device.Calls.{Readable}
 use Rattle.files.specs.SettingsLine.{settingsWidths, settingsIn, settingsLineRefusal, settingsLineAnswer, settingsLineNumber}
 use Rattle.files.proofs.AnswerNumbers.{answer-number}
 use Rattle.text.proofs.LineLaws.{line-shape, line-number}
 
-pub narrow-settings : narrow settingsWidths ≡ true
-narrow-settings = refl
+pub settings-readable : Readable settingsWidths
+settings-readable = record { some = omega arith; few = omega arith; each = refl }
 
 -- both clauses of the reader's contract
 pub settings-told : (r : SettingsRead) (s : List ℕ) → r ≡ settingsLineAnswer s → (r ≡ settingsLineAnswer s) × (settingsLineNumber r ≡ settingsLineRefusal s)

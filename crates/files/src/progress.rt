@@ -1,13 +1,15 @@
 // The replay, line by line: the settings line, then the rows.
 ghost use mathlib.Core.Path.{_≡_};
-ghost use Prim.Native.Nat.{_+_, _≤_, _<_};
+ghost use mathlib.Core.List.{List};
+ghost use Prim.Native.Nat.{ℕ, _+_, _≤_, _<_};
 ghost use lib.ListN.{length};
-ghost use lib.Seq.{sets};
 ghost use Rattle.files.specs.Row.{lastRow};
 ghost use Rattle.files.specs.SettingsLine.{settingsLineAnswer};
 ghost use Rattle.files.specs.Output.{changeRoom, endRoom};
-ghost use Rattle.files.specs.Progress.{freshProgress, stopped, opened, afterTick, wroteTick, afterRow, wroteRow, changeOf, refuse, afterLine, wroteLine, endRefusal, endOf};
-ghost use Rattle.files.specs.device.Calls.{notedOf};
+ghost use Rattle.files.specs.Progress.{freshProgress, stopped, refuse, opened, changeOf, endRefusal, endOf};
+ghost use Rattle.files.specs.Progress.{afterTick, wroteTick, afterRow, wroteRow, afterLine, wroteLine};
+ghost use Rattle.files.specs.device.Calls.{WroteWithin, LineNoted};
+ghost use Rattle.text.specs.device.Calls.{Wrote};
 use crate::output::put_change;
 use crate::output::put_end;
 use crate::refusals::WRONG_SHAPE;
@@ -113,9 +115,7 @@ fn on_settings_line(p: Progress, line: &[u8]) -> Progress
 // The line of a tick whose output byte differs from the one before, and nothing for any other.
 fn note_change(out: &mut [u8], at: usize, row: u32, outputs: u8, before: u8) -> usize
     requires { ⌜ (row ≤ lastRow) × (at + changeRoom ≤ length (now out)) ⌝ }
-    ensures place { λ r. ⌜ r ≡ at + length (changeOf row outputs before) ⌝ }
-    ensures output { λ _. ⌜ now (out .exit) ≡ sets (now (out .entry)) at (changeOf row outputs before) ⌝ }
-    ensures short { λ r. ⌜ r ≤ at + changeRoom ⌝ }
+    ensures { λ r. ⌜ WroteWithin changeRoom (now (out .entry)) (now (out .exit)) at r (changeOf row outputs before) ⌝ }
 {
     if outputs == before {
         return at;
@@ -126,9 +126,7 @@ fn note_change(out: &mut [u8], at: usize, row: u32, outputs: u8, before: u8) -> 
 // The tick of an accepted row: the row is done where the tick is accepted; else the replay stops.
 fn on_tick(p: Progress, t: RelayTicked, out: &mut [u8], at: usize) -> Noted
     requires { ⌜ (p .done < lastRow) × (at + changeRoom ≤ length (now out)) ⌝ }
-    ensures noted { λ r. ⌜ r ≡ notedOf (afterTick p t) (wroteTick p t) at ⌝ }
-    ensures output { λ _. ⌜ now (out .exit) ≡ sets (now (out .entry)) at (wroteTick p t) ⌝ }
-    ensures short { λ r. ⌜ r .written ≤ at + changeRoom ⌝ }
+    ensures { λ r. ⌜ LineNoted changeRoom (now (out .entry)) (now (out .exit)) at (afterTick p t) (wroteTick p t) r ⌝ }
 {
     if t.refusal != 0 {
         let progress = stop(p, t.refusal);
@@ -157,9 +155,9 @@ fn on_tick(p: Progress, t: RelayTicked, out: &mut [u8], at: usize) -> Noted
 // A row. What it writes is never longer than the row itself.
 fn on_row(p: Progress, line: &[u8], out: &mut [u8], at: usize) -> Noted
     requires { ⌜ at + length (now line) ≤ length (now out) ⌝ }
-    ensures noted { λ r. ⌜ r ≡ notedOf (afterRow p (now (line .entry))) (wroteRow p (now (line .entry))) at ⌝ }
-    ensures output { λ _. ⌜ now (out .exit) ≡ sets (now (out .entry)) at (wroteRow p (now (line .entry))) ⌝ }
-    ensures short { λ r. ⌜ r .written ≤ at + length (now (line .entry)) ⌝ }
+    ensures { λ r.
+        let l : List ℕ = now (line .entry) in
+        ⌜ LineNoted (length l) (now (out .entry)) (now (out .exit)) at (afterRow p l) (wroteRow p l) r ⌝ }
 {
     let answer = read_row(line, p.done);
     match answer {
@@ -180,9 +178,9 @@ fn on_row(p: Progress, line: &[u8], out: &mut [u8], at: usize) -> Noted
 // One line of the input, which writes at a place of the output.
 pub(crate) fn on_line(p: Progress, line: &[u8], out: &mut [u8], at: usize) -> Noted
     requires { ⌜ at + length (now line) ≤ length (now out) ⌝ }
-    ensures noted { λ r. ⌜ r ≡ notedOf (afterLine p (now (line .entry))) (wroteLine p (now (line .entry))) at ⌝ }
-    ensures output { λ _. ⌜ now (out .exit) ≡ sets (now (out .entry)) at (wroteLine p (now (line .entry))) ⌝ }
-    ensures short { λ r. ⌜ r .written ≤ at + length (now (line .entry)) ⌝ }
+    ensures { λ r.
+        let l : List ℕ = now (line .entry) in
+        ⌜ LineNoted (length l) (now (out .entry)) (now (out .exit)) at (afterLine p l) (wroteLine p l) r ⌝ }
 {
     let stage = p.stage;
     match stage {
@@ -215,8 +213,7 @@ pub(crate) fn end_refusal(stage: Stage) -> u32
 // The end line, at the front of the output; answers how long it is.
 pub(crate) fn on_end(p: Progress, out: &mut [u8]) -> usize
     requires { ⌜ endRoom ≤ length (now out) ⌝ }
-    ensures written { λ r. ⌜ r ≡ length (endOf p) ⌝ }
-    ensures output { λ _. ⌜ now (out .exit) ≡ sets (now (out .entry)) 0 (endOf p) ⌝ }
+    ensures { λ r. ⌜ Wrote (now (out .entry)) (now (out .exit)) 0 r (endOf p) ⌝ }
 {
     let stage = p.stage;
     let refusal = end_refusal(stage);

@@ -3,8 +3,9 @@ ghost use mathlib.Core.Path.{_≡_};
 ghost use Prim.Native.Nat.{_+_, _≤_, _<_};
 ghost use lib.ListN.{length};
 ghost use lib.Seq.{sets};
-ghost use Rattle.files.specs.Replay.{lineLimit, freshReplay, writes, portionRoom, takes, fedBy, feedAnswer, feedWrites, lastProgress, refusalAtEnd, finishWrites, isStopped};
-ghost use Rattle.files.specs.device.Calls.{takenWith};
+ghost use Rattle.files.specs.Replay.{lineLimit, freshReplay, portionRoom, takes, feedAnswer, feedWrites};
+ghost use Rattle.files.specs.Replay.{lastProgress, refusalAtEnd, finishWrites, isStopped};
+ghost use Rattle.files.specs.device.Calls.{takenWith, PortionFed};
 use crate::output::END_ROOM;
 use crate::progress::Progress;
 use crate::progress::Stage;
@@ -67,9 +68,7 @@ fn taken(progress: Progress, held: [u8; LINE_LIMIT], count: usize, written: usiz
 // The bytes of a portion. Most of them are only held: a line's end alone touches the progress.
 fn feed_bytes(state: Replay, portion: &[u8], out: &mut [u8]) -> Fed
     requires { ⌜ (state .count < lineLimit) × (portionRoom (state .count) (length (now portion)) ≤ length (now out)) ⌝ }
-    ensures answer { λ r. ⌜ r ≡ fedBy state (now (portion .entry)) ⌝ }
-    ensures output { λ _. ⌜ now (out .exit) ≡ sets (now (out .entry)) 0 (writes state (now (portion .entry))) ⌝ }
-    ensures within { λ r. ⌜ r .written ≤ portionRoom (state .count) (length (now (portion .entry))) ⌝ }
+    ensures { λ r. ⌜ PortionFed state (now (portion .entry)) (now (out .entry)) (now (out .exit)) r ⌝ }
 {
     let mut progress = state.progress;
     let mut held = state.held;

@@ -69,13 +69,13 @@ decimal-back v h = value-decimal 9 v (omega arith)
 
 -- ---- stores one after the other
 
+pub digit-longer : (v : ℕ) → 10 ≤ v → v < 10000000000 → length (decimal v) ≡ length (decimal (v / 10)) + 1
+digit-longer v h k = rw (decimal-more v h k, length-append)
+
 -- one digit more, at the place after those before it
 pub put-digit : (s : List ℕ) (at v : ℕ) → 10 ≤ v → v < 10000000000
-    → (length (decimal v) ≡ length (decimal (v / 10)) + 1)
-    × (set (sets s at (decimal (v / 10))) (at + length (decimal (v / 10))) (48 + v % 10) ≡ sets s at (decimal v))
-put-digit s at v h k =
-    let e : decimal v ≡ decimal (v / 10) ++ ((48 + v % 10) ∷ []) = decimal-more v h k in
-    (rw (e, length-append), rw (e, sets-append))
+    → set (sets s at (decimal (v / 10))) (at + length (decimal (v / 10))) (48 + v % 10) ≡ sets s at (decimal v)
+put-digit s at v h k = rw (decimal-more v h k, sets-append)
 
 -- ---- reading brings a decimal back
 

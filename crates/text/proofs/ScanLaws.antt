@@ -123,11 +123,14 @@ module _ (ws s : List ℕ) (k at : ℕ) (h : k < length ws) where
   closer-suc = ap (λ (n : ℕ). fieldCloser (drop n ws)) (sym (add-one k)) ∙ closer-at
 
   -- the digits counted, and the byte after them the one that closes the field
-  pub field-closes : (n byte due : ℕ) → n ≡ here → byte ≡ getD s (at + n) 0 → due ≡ cond (eqb (k + 1) (length ws)) 13 44 → byte ≡ due
-      → (getD s (at + here) 0 ≡ cond (eqb (k + 1) (length ws)) 13 44) × (at + here < length s)
+  pub record FieldCloses : Type 0 where
+    pub due : getD s (at + here) 0 ≡ cond (eqb (k + 1) (length ws)) 13 44
+    pub within : at + here < length s
+
+  pub field-closes : (n byte due : ℕ) → n ≡ here → byte ≡ getD s (at + n) 0 → due ≡ cond (eqb (k + 1) (length ws)) 13 44 → byte ≡ due → FieldCloses
   field-closes n byte due e f g q =
       let z : getD s (at + here) 0 ≡ cond (eqb (k + 1) (length ws)) 13 44 = ap (λ (m : ℕ). getD s (at + m) 0) (sym e) ∙ sym f ∙ q ∙ g in
-      (z, closed-within s (at + here) (eqb (k + 1) (length ws)) z)
+      record { due = z; within = closed-within s (at + here) (eqb (k + 1) (length ws)) z }
 
   further : drop (here + 1) (drop at s) ≡ drop (at + here + 1) s
   further = let e : at + (here + 1) ≡ at + here + 1 = omega arith in drop-drop (here + 1) at s ∙ rw e

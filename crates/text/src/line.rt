@@ -1,10 +1,10 @@
 // The shape of a line: fields of digits by commas, closed by CR LF.
 ghost use mathlib.Core.Path.{_≡_};
-ghost use mathlib.Core.Bool.{true, cond};
-ghost use Prim.Native.Nat.{_≤_};
+ghost use mathlib.Core.Bool.{cond};
 ghost use lib.Dec.{eqb};
-ghost use lib.ListN.{length, getD};
-ghost use Rattle.text.specs.Line.{cr, comma, narrow, fieldLimit, lineAnswer, wrongLine};
+ghost use lib.ListN.{getD};
+ghost use Rattle.text.specs.Line.{cr, comma, lineAnswer, wrongLine};
+ghost use Rattle.text.specs.device.Calls.{Readable};
 use crate::number::read_digits;
 
 // As many fields as a line may have.
@@ -41,7 +41,7 @@ fn field_closer(k: usize, n: usize) -> u8
 
 // A line that has one field for each width, in one scan.
 pub fn read_line(s: &[u8], widths: &[usize]) -> Line
-    requires { ⌜ (1 ≤ length (now widths)) × (length (now widths) ≤ fieldLimit) × (narrow (now widths) ≡ true) ⌝ }
+    requires { ⌜ Readable (now widths) ⌝ }
     ensures { λ r. ⌜ r ≡ lineAnswer (now (widths .entry)) (now (s .entry)) ⌝ }
 {
     let mut at = 0;

@@ -3,9 +3,10 @@
 ghost use mathlib.Core.Path.{_≡_};
 ghost use mathlib.Core.List.{_++_, [], _∷_};
 ghost use Prim.Native.Nat.{_≤_, _<_};
-ghost use lib.ListN.{length, take, set};
+ghost use lib.ListN.{length, take};
 ghost use Rattle.text.specs.Line.{endsCrLf};
-ghost use Rattle.text.specs.Lines.{closedBy, cutOf};
+ghost use Rattle.text.specs.Lines.{closedBy};
+ghost use Rattle.text.specs.device.Calls.{ByteCut};
 
 // What closes a line: CR LF, or LF alone.
 pub enum Closer {
@@ -49,8 +50,7 @@ fn closes(held: &[u8], n: usize, b: u8, closer: Closer) -> bool
 // One byte more, after the n bytes held: the line that it closes or makes too long is the first n + 1 bytes of `held`.
 pub fn cut_byte(held: &mut [u8], n: usize, b: u8, limit: usize, closer: Closer) -> Cut
     requires { ⌜ n < length (now held) ⌝ }
-    ensures cut { λ r. ⌜ r ≡ cutOf closer limit (take n (now (held .entry)) ++ (b ∷ [])) ⌝ }
-    ensures held { λ _. ⌜ now (held .exit) ≡ set (now (held .entry)) n b ⌝ }
+    ensures { λ r. ⌜ ByteCut closer limit n b (now (held .entry)) (now (held .exit)) r ⌝ }
 {
     let closed = closes(held, n, b, closer);
     held[n] = b;

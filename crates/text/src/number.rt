@@ -1,9 +1,8 @@
 // Numbers in text: reading 1 to 10 digits, and writing a decimal.
-ghost use mathlib.Core.Path.{_≡_};
 ghost use Prim.Native.Nat.{_+_, _≤_};
-ghost use lib.ListN.{length, drop};
-ghost use lib.Seq.{sets};
-ghost use Rattle.text.specs.Number.{leading, digitsFrom, digitLimit, decimal};
+ghost use lib.ListN.{length};
+ghost use Rattle.text.specs.Number.{digitLimit, decimal};
+ghost use Rattle.text.specs.device.Calls.{DigitsFound, Wrote};
 
 // The byte '0'.
 const ZERO: u32 = 48;
@@ -16,8 +15,7 @@ pub struct Digits {
 // The digits that stand at a place, at most `width` of them: how many there are, and their number.
 pub fn read_digits(s: &[u8], at: usize, width: usize) -> Digits
     requires { ⌜ (at ≤ length (now s)) × (width ≤ digitLimit) ⌝ }
-    ensures digits { λ r. ⌜ r ≡ digitsFrom 0 0 (leading width (drop at (now (s .entry)))) ⌝ }
-    ensures within { λ r. ⌜ at + r .count ≤ length (now (s .entry)) ⌝ }
+    ensures { λ r. ⌜ DigitsFound (now (s .entry)) at width r ⌝ }
 {
     let mut n = 0;
     let mut v: u64 = 0;
@@ -42,8 +40,7 @@ pub fn read_digits(s: &[u8], at: usize, width: usize) -> Digits
 // Writes a decimal at a place, and answers the place after it.
 pub fn put_decimal(out: &mut [u8], at: usize, v: u32) -> usize
     requires { ⌜ at + length (decimal v) ≤ length (now out) ⌝ }
-    ensures place { λ r. ⌜ r ≡ at + length (decimal v) ⌝ }
-    ensures output { λ _. ⌜ now (out .exit) ≡ sets (now (out .entry)) at (decimal v) ⌝ }
+    ensures { λ r. ⌜ Wrote (now (out .entry)) (now (out .exit)) at r (decimal v) ⌝ }
 {
     if v < 10 {
         out[at] = (ZERO + v) as u8;

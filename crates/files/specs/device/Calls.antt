@@ -5,21 +5,40 @@ use mathlib.Core.Bool.{true, false}
 use mathlib.Core.List.{List}
 use Prim.Native.Nat.{ℕ, _+_, _≤_}
 use lib.ListN.{length}
+use lib.Seq.{sets}
 use Rattle.text.specs.Line.{endsCrLf}
+use Rattle.text.specs.device.Calls.{Wrote}
 use Rattle.files.specs.declared.progress.Progress.{Progress}
 use Rattle.files.specs.declared.progress.Noted.{Noted}
 use Rattle.files.specs.declared.replay.Replay.{Replay}
 use Rattle.files.specs.declared.replay.Fed.{Fed}
-use Rattle.files.specs.Replay.{lineLimit, heldLine}
+use Rattle.files.specs.Replay.{lineLimit, heldLine, writes, portionRoom, fedBy}
 
 -- the progress after a line, and the place after what it wrote
 abbrev pub notedOf : Progress → List ℕ → ℕ → Noted
 notedOf p w at = record { progress = p; written = at + length w }
 
+-- these bytes were written at a place, at most `room` of them
+pub record WroteWithin (room : ℕ) (before after : List ℕ) (at place : ℕ) (bytes : List ℕ) : Type 0 where
+  pub wrote : Wrote before after at place bytes
+  pub short : place ≤ at + room
+
+-- a line was noted: the progress after it, and what it wrote at a place, at most `room` bytes
+pub record LineNoted (room : ℕ) (before after : List ℕ) (at : ℕ) (p : Progress) (bytes : List ℕ) (answer : Noted) : Type 0 where
+  pub noted : answer ≡ notedOf p bytes at
+  pub output : after ≡ sets before at bytes
+  pub short : answer .written ≤ at + room
+
 -- a portion that was taken
 abbrev pub takenWith : Progress → List ℕ → ℕ → ℕ → Fed
 takenWith p held count written =
     record { taken = true; state = record { progress = p; held = held; count = count }; written = written }
+
+-- a portion was fed, and what it wrote stands at the front
+pub record PortionFed (r : Replay) (portion before after : List ℕ) (x : Fed) : Type 0 where
+  pub answer : x ≡ fedBy r portion
+  pub output : after ≡ sets before 0 (writes r portion)
+  pub within : x .written ≤ portionRoom (r .count) (length portion)
 
 -- the line held is shorter than a line too long, and is not closed
 pub record Sound (r : Replay) : Type 0 where

@@ -18,7 +18,7 @@ returns : tie.Need-returns
 returns c =
     let a = c .before .before .before .before .before .args in
     let e = c .before .before .put-pair .ensures in
-    (e .0, (e .1, omega (arith, change-short (a .row) (a .outputs) (omega arith) (omega arith))))
+    record { wrote = e; short = omega (arith, change-short (a .row) (a .outputs) (omega arith) (omega arith)) }
 
 pub put-change-spec : {M : Type 1} → statement M
 put-change-spec = tie.close (tie.spec put-pair-requires same-length returns)

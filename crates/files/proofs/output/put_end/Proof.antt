@@ -27,7 +27,7 @@ put-pair-requires c κs =
     simp length-set (omega (arith, end-short (a .done) (a .refusal)))
 
 same-length : tie.Need-same-length
-same-length c = ap length (c .before .before .put-pair .ensures .1) ∙ simp (length-sets, length-set)
+same-length c = ap length (c .before .before .put-pair .ensures .output) ∙ simp (length-sets, length-set)
 
 returns : tie.Need-returns
 returns c = search needs

@@ -31,7 +31,7 @@ put-decimal-requires-2 c κs =
 slice-write-out-2 : tie.Need-slice-write-out-2
 slice-write-out-2 c =
     let a = c .before .before .before .before .before .before .before .before .before .args in
-    let kept = simp (length-sets, length-set) at (ap length (c .before .before .put-decimal2 .ensures .1)) in
+    let kept = simp (length-sets, length-set) at (ap length (c .before .before .put-decimal2 .ensures .output)) in
     omega (arith, pair-length (a .a) (a .b), kept)
 
 add-result : tie.Need-add-result
@@ -41,7 +41,7 @@ add-result c =
 
 same-length : tie.Need-same-length
 same-length c =
-    let kept = simp (length-sets, length-set) at (ap length (c .before .before .put-decimal2 .ensures .1)) in
+    let kept = simp (length-sets, length-set) at (ap length (c .before .before .put-decimal2 .ensures .output)) in
     simp length-set (omega (arith, kept))
 
 returns : tie.Need-returns
@@ -49,7 +49,10 @@ returns c =
     let a = c .before .before .before .before .before .before .before .before .before .args in
     let e = c .before .before .before .before .before .before .put-decimal .ensures in
     let f = c .before .before .put-decimal2 .ensures in
-    (omega (arith, pair-length (a .a) (a .b)), rw (f .1, f .0, e .1, e .0) (pair-sets (a .out .now) (a .at) (a .a) (a .b)))
+    record {
+      place-after = omega (arith, pair-length (a .a) (a .b));
+      output = rw (f .output, f .place-after, e .output, e .place-after) (pair-sets (a .out .now) (a .at) (a .a) (a .b));
+    }
 
 pub put-pair-spec : {M : Type 1} → statement M
 put-pair-spec =

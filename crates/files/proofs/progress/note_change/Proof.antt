@@ -7,7 +7,9 @@ use Rattle.files.proofs.progress.note_change.Statement.{statement}
 use Rattle.files.proofs.progress.note_change.Tie as tie
 
 returns : tie.Need-returns
-returns c = (simp (eq-eqb _ _ (c .if1 .taken)) (omega arith), (simp (eq-eqb _ _ (c .if1 .taken)), omega arith))
+returns c =
+    let n = eq-eqb _ _ (c .if1 .taken) in
+    record { wrote = record { place-after = simp n (omega arith); output = simp n }; short = omega arith }
 
 put-change-requires : tie.Need-put-change-requires
 put-change-requires c κs = search needs
@@ -19,7 +21,7 @@ returns-2 : tie.Need-returns-2
 returns-2 c =
     let e = c .before .before .put-change .ensures in
     let n = ne-eqb _ _ (c .before .before .before .before .if1 .left) in
-    (simp n (e .0), (simp n (e .1 .0), e .1 .1))
+    record { wrote = record { place-after = simp n (e .wrote .place-after); output = simp n (e .wrote .output) }; short = e .short }
 
 pub note-change-spec : {M : Type 1} → statement M
 note-change-spec = tie.close (tie.spec returns put-change-requires same-length returns-2)

@@ -1,6 +1,8 @@
 -- `files::progress::on_end` meets its contract.
 -- Assumes nothing.
 use mathlib.Core.Path.{ap, _∙_}
+use mathlib.Core.List.{List}
+use Prim.Native.Nat.{ℕ, _+_}
 use lib.ListN.{length}
 use lib.Seq.{sets}
 use Rattle.files.specs.Output.{endLine}
@@ -22,7 +24,10 @@ returns c =
     let a = c .before .before .before .before .before .before .args in
     let e = ap (endLine (a .p .done)) (c .before .before .before .before .end-refusal .ensures) in
     let f = c .before .before .put-end .ensures in
-    (f .0 ∙ ap length e, f .1 ∙ ap (sets (a .out .now) 0) e)
+    record {
+      place-after = f .place-after ∙ ap (λ (w : List ℕ). 0 + length w) e;
+      output = f .output ∙ ap (sets (a .out .now) 0) e;
+    }
 
 pub on-end-spec : {M : Type 1} → statement M
 on-end-spec = tie.close (tie.spec end-refusal-requires put-end-requires same-length returns)

@@ -24,10 +24,12 @@ enum-told-3 c = search needs
 returns : tie.Need-returns
 returns c =
     let a = c .before .before .before .before .before .args in
-    let e = c .before .enum-told .given .1 in (
-      opening-noted (a .p) (a .line .now) (a .at) (c .on-settings-line .result) e (c .on-settings-line .ensures),
-      (opening-quiet (a .p) (a .line .now) (a .at) (a .out .now) e, omega arith),
-    )
+    let e = c .before .enum-told .given .1 in
+    record {
+      noted = opening-noted (a .p) (a .line .now) (a .at) (c .on-settings-line .result) e (c .on-settings-line .ensures);
+      output = opening-quiet (a .p) (a .line .now) (a .at) (a .out .now) e;
+      short = omega arith;
+    }
 
 same-length : tie.Need-same-length
 same-length c = search needs
@@ -36,16 +38,22 @@ returns-2 : tie.Need-returns-2
 returns-2 c =
     let a = c .before .before .before .before .before .before .before .before .args in
     let e = c .before .before .before .before .enum-told2 .given .1 in
-    let f = c .before .before .on-row .ensures in (
-      running-noted (a .p) (a .line .now) (a .at) e _ (f .0),
-      (running-output (a .p) (a .line .now) (a .at) e (a .out .now) (c .before .before .on-row .last .1 .1 .0) (f .1 .0), f .1 .1),
-    )
+    let f = c .before .before .on-row .ensures in
+    record {
+      noted = running-noted (a .p) (a .line .now) (a .at) e _ (f .noted);
+      output = running-output (a .p) (a .line .now) (a .at) e (a .out .now) (c .before .before .on-row .last .1 .1 .0) (f .output);
+      short = f .short;
+    }
 
 returns-3 : tie.Need-returns-3
 returns-3 c =
     let a = c .before .before .before .before .args in
     let e = c .enum-told3 .given .1 in
-    (stopped-noted (a .p) (a .line .now) (a .at) _ e, (stopped-quiet (a .p) (a .line .now) (a .at) (a .out .now) _ e, omega arith))
+    record {
+      noted = stopped-noted (a .p) (a .line .now) (a .at) _ e;
+      output = stopped-quiet (a .p) (a .line .now) (a .at) (a .out .now) _ e;
+      short = omega arith;
+    }
 
 pub on-line-spec : {M : Type 1} → statement M
 on-line-spec =

@@ -43,23 +43,25 @@ returns c =
     let r = rowAnswer (a .line .now) (a .p .done) in
     let t = c .before .before .before .before .tick in
     let f = c .before .before .on-tick .ensures in
-    let k = accepted-row (a .line .now) (a .p .done) x q in (
-      accepted-noted (a .p) r x (t .result) q (t .ensures) _ (a .at) (f .0),
-      (
-        accepted-output (a .p) r x (t .result) q (t .ensures) (a .out .now) (c .before .before .on-tick .last .1 .1 .0) (a .at) (f .1 .0),
-        omega (arith, f .1 .1),
-      ),
-    )
+    let k = accepted-row (a .line .now) (a .p .done) x q in
+    record {
+      noted = accepted-noted (a .p) r x (t .result) q (t .ensures) _ (a .at) (f .noted);
+      output =
+          accepted-output (a .p) r x (t .result) q (t .ensures) (a .out .now) (c .before .before .on-tick .last .1 .1 .0) (a .at) (f .output);
+      short = omega (arith, f .short);
+    }
 
 returns-2 : tie.Need-returns-2
 returns-2 c =
     let a = c .before .before .before .before .before .before .before .args in
     let r = rowAnswer (a .line .now) (a .p .done) in
     let n = c .before .before .answer2 .given .0 .0 in
-    let q = sym (c .before .before .before .before .read-row .ensures .0) ∙ c .before .before .answer2 .given .1 in (
-      refused-noted (a .p) r n q (c .stop .result) (a .at) (c .stop .ensures),
-      (refused-quiet (a .p) r n q (a .out .now) (a .at), omega arith),
-    )
+    let q = sym (c .before .before .before .before .read-row .ensures .0) ∙ c .before .before .answer2 .given .1 in
+    record {
+      noted = refused-noted (a .p) r n q (c .stop .result) (a .at) (c .stop .ensures);
+      output = refused-quiet (a .p) r n q (a .out .now) (a .at);
+      short = omega arith;
+    }
 
 pub on-row-spec : {M : Type 1} → statement M
 on-row-spec =

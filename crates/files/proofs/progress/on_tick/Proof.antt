@@ -12,10 +12,12 @@ stop-requires c κs = search needs
 returns : tie.Need-returns
 returns c =
     let a = c .before .before .before .before .args in
-    let e = c .before .if1 .taken in (
-      refused-tick-noted (a .p) (a .t) e (c .stop .result) (a .at) (c .stop .ensures),
-      (refused-tick-quiet (a .p) (a .t) e (a .out .now) (a .at), omega arith),
-    )
+    let e = c .before .if1 .taken in
+    record {
+      noted = refused-tick-noted (a .p) (a .t) e (c .stop .result) (a .at) (c .stop .ensures);
+      output = refused-tick-quiet (a .p) (a .t) e (a .out .now) (a .at);
+      short = omega arith;
+    }
 
 add-done : tie.Need-add-done
 add-done c = search needs
@@ -30,10 +32,12 @@ returns-2 : tie.Need-returns-2
 returns-2 c =
     let a = c .before .before .before .before .before .before .before .before .before .before .args in
     let e = c .before .before .before .before .before .before .before .if1 .left in
-    let f = c .before .before .before .before .note-change .ensures in (
-      tick-noted (a .p) (a .t) e (c .before .before .before .before .note-change .result) (a .at) (f .0),
-      (tick-output (a .p) (a .t) e (a .out .now) (c .before .before .before .before .note-change .last .0) (a .at) (f .1 .0), f .1 .1),
-    )
+    let n = c .before .before .before .before .note-change in
+    record {
+      noted = tick-noted (a .p) (a .t) e (n .result) (a .at) (n .ensures .wrote .place-after);
+      output = tick-output (a .p) (a .t) e (a .out .now) (n .last .0) (a .at) (n .ensures .wrote .output);
+      short = n .ensures .short;
+    }
 
 pub on-tick-spec : {M : Type 1} → statement M
 on-tick-spec =

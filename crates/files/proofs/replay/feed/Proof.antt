@@ -27,11 +27,11 @@ returns c =
     let e = sym (c .before .before .before .before .before .takes-portion .ensures) ∙ c .before .before .before .before .if1 .taken in
     let f = c .before .before .feed-bytes .ensures in
     let room = taken-room (a .state) (a .portion .now) (length (a .out .now)) e in
-    let k : length (c .before .before .feed-bytes .last .1 .1 .0) ≡ length (a .out .now) = ap length (f .1 .0) ∙ simp length-sets in (
-      f .0 ∙ sym (taken-answer (a .state) (a .portion .now) (length (a .out .now)) e),
+    let k : length (c .before .before .feed-bytes .last .1 .1 .0) ≡ length (a .out .now) = ap length (f .output) ∙ simp length-sets in (
+      f .answer ∙ sym (taken-answer (a .state) (a .portion .now) (length (a .out .now)) e),
       (
-        f .1 .0 ∙ ap (sets (a .out .now) 0) (sym (taken-writes (a .state) (a .portion .now) (length (a .out .now)) e)),
-        omega (arith, f .1 .1),
+        f .output ∙ ap (sets (a .out .now) 0) (sym (taken-writes (a .state) (a .portion .now) (length (a .out .now)) e)),
+        omega (arith, f .within),
       ),
     )
 

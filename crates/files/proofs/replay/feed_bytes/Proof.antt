@@ -1,13 +1,11 @@
 -- `files::replay::feed_bytes` meets its contract: a turn of the loop is a byte of the portion.
 -- Assumes nothing.
-use mathlib.Core.Path.{refl, _∙_}
-use Prim.Native.Nat.{_+_, _-_}
+use Prim.Native.Nat.{_-_}
 use native.Mathlib.Omega.{arith}
-use lib.ListN.{length, take, length-take}
+use lib.ListN.{length, length-take}
 use borrow.Author.Needs.{needs}
 use Rattle.files.specs.declared.replay.Replay.{Replay}
-use Rattle.files.specs.Progress.{wroteLine}
-use Rattle.files.proofs.FeedLaws.{FeedTurn, reached-none, stored-length, same-room, held-short, reached-closed, reached-filled, reached-held, reached-all}
+use Rattle.files.proofs.FeedLaws.{FeedTurn, same-room, turn-first, turn-held, turn-closed, turn-filled, turn-last}
 use Rattle.files.proofs.replay.feed_bytes.Statement.{statement}
 use Rattle.files.proofs.replay.feed_bytes.Tie as tie
 
@@ -21,14 +19,7 @@ abbrev μ-loop : tie.MeasureT-loop
 loop-holds : tie.Need-loop-holds Inv-loop μ-loop
 loop-holds c =
     let a = c .before .before .before .before .args in
-    record {
-      within = omega arith;
-      long = refl;
-      room = search needs;
-      short = omega arith;
-      little = omega arith;
-      reached = reached-none (a .state) (a .portion .now) (a .out .now);
-    }
+    turn-first (a .state) (a .portion .now) (a .out .now) (search needs) (omega arith)
 
 shared-slice-read-b : tie.Need-shared-slice-read-b Inv-loop μ-loop
 shared-slice-read-b c = search needs
@@ -57,15 +48,7 @@ loop-again c =
     let l = c .before .before .before .before .before .before .before .loop in
     let k = c .before .before .before .cut-byte in
     let s : Replay = record { progress = l .progress; held = l .held; count = l .n } in
-    let told = c .enum-told .given .1 in
-    record {
-      within = omega arith;
-      long = l .inv .long;
-      room = same-room (l .held) (k .last .0) _ _ (k .ensures .1) (l .inv .room);
-      short = held-short s _ (omega arith) (l .inv .room) (k .result) told (k .ensures .0);
-      little = omega arith;
-      reached = reached-held (a .state) (a .portion .now) (a .out .now) (l .i) s (l .at) (l .out) (omega arith) (l .inv .reached) (k .last .0) (k .ensures .1) (k .result) told (k .ensures .0);
-    }
+    turn-held (a .state) (a .portion .now) (a .out .now) (l .i) s (l .at) (l .out) (l .inv) (omega arith) (k .last .0) (k .result) (k .ensures) (c .enum-told .given .1)
 
 enum-told-2 : tie.Need-enum-told-2 Inv-loop μ-loop
 enum-told-2 c = search needs
@@ -74,21 +57,21 @@ array-share-prefix-held : tie.Need-array-share-prefix-held Inv-loop μ-loop
 array-share-prefix-held c =
     let k = c .before .before .before .cut-byte in
     let l = c .before .before .before .before .before .before .before .loop in
-    let w = same-room (l .held) (k .last .0) _ _ (k .ensures .1) (l .inv .room) in
+    let w = same-room _ _ _ (l .held) (k .last .0) _ (k .ensures) (l .inv .room) in
     omega (arith, w, l .inv .short)
 
 slice-aggregate-on-line : tie.Need-slice-aggregate-on-line Inv-loop μ-loop
 slice-aggregate-on-line c =
     let k = c .before .before .before .before .cut-byte in
     let l = c .before .before .before .before .before .before .before .before .loop in
-    let w = same-room (l .held) (k .last .0) _ _ (k .ensures .1) (l .inv .room) in
+    let w = same-room _ _ _ (l .held) (k .last .0) _ (k .ensures) (l .inv .room) in
     simp length-take (omega (arith, w, l .inv .short))
 
 on-line-requires : tie.Need-on-line-requires Inv-loop μ-loop
 on-line-requires c κs =
     let k = c .before .before .before .before .before .cut-byte in
     let l = c .before .before .before .before .before .before .before .before .before .loop in
-    let w = same-room (l .held) (k .last .0) _ _ (k .ensures .1) (l .inv .room) in
+    let w = same-room _ _ _ (l .held) (k .last .0) _ (k .ensures) (l .inv .room) in
     simp length-take (omega (arith, w, c .before .before .before .before .before .before .before .before .loop-test .taken, c .before .before .before .before .before .before .before .before .before .before .before .before .before .before .pre, l .inv))
 
 loop-less-2 : tie.Need-loop-less-2 Inv-loop μ-loop
@@ -102,16 +85,8 @@ loop-again-2 c =
     let t = c .before .before .before .on-line in
     let s : Replay = record { progress = l .progress; held = l .held; count = l .n } in
     let told = c .before .before .before .before .before .before .enum-told2 .given .1 in
-    let w = same-room (l .held) (k .last .0) _ _ (k .ensures .1) (l .inv .room) in
-    let turn = c .before .before .before .before .before .before .before .before .before .before .before .before .loop-test .taken in
-    record {
-      within = omega (arith, turn);
-      long = stored-length (l .out) (t .last .1 .1 .0) (wroteLine (l .progress) (take (l .n + 1) (k .last .0))) (l .at) _ (t .ensures .1 .0) (l .inv .long);
-      room = w;
-      short = omega arith;
-      little = omega (arith, simp length-take at (t .ensures .1 .1), l .inv .little);
-      reached = reached-closed (a .state) (a .portion .now) (a .out .now) (l .i) s (l .at) (l .out) (omega (arith, turn)) (l .inv .reached) (k .last .0) (k .ensures .1) (omega (arith, l .inv .short)) (l .inv .room) (k .result) told (k .ensures .0) (t .result) (t .last .1 .1 .0) (t .ensures .0) (t .ensures .1 .0);
-    }
+    let more = c .before .before .before .before .before .before .before .before .before .before .before .before .loop-test .taken in
+    turn-closed (a .state) (a .portion .now) (a .out .now) (l .i) s (l .at) (l .out) (l .inv) (omega (arith, more)) (k .last .0) (k .result) (k .ensures) told (t .result) (t .last .1 .1 .0) (t .ensures)
 
 enum-told-3 : tie.Need-enum-told-3 Inv-loop μ-loop
 enum-told-3 c = search needs
@@ -129,14 +104,7 @@ loop-again-3 c =
     let k = c .before .before .before .before .cut-byte in
     let s : Replay = record { progress = l .progress; held = l .held; count = l .n } in
     let told = c .before .enum-told3 .given .1 in
-    record {
-      within = omega arith;
-      long = l .inv .long;
-      room = same-room (l .held) (k .last .0) _ _ (k .ensures .1) (l .inv .room);
-      short = omega arith;
-      little = omega arith;
-      reached = reached-filled (a .state) (a .portion .now) (a .out .now) (l .i) s (l .at) (l .out) (omega arith) (l .inv .reached) (k .last .0) (k .ensures .1) (k .result) told (k .ensures .0) (c .refuse-shape .result) (c .refuse-shape .ensures);
-    }
+    turn-filled (a .state) (a .portion .now) (a .out .now) (l .i) s (l .at) (l .out) (l .inv) (omega arith) (k .last .0) (k .result) (k .ensures) told (c .refuse-shape .result) (c .refuse-shape .ensures)
 
 taken-requires : tie.Need-taken-requires Inv-loop μ-loop
 taken-requires c κs = search needs
@@ -149,9 +117,7 @@ returns c =
     let a = c .before .before .before .before .before .before .before .args in
     let l = c .before .before .loop in
     let s : Replay = record { progress = l .progress; held = l .held; count = l .n } in
-    let z = reached-all (a .state) (a .portion .now) (a .out .now) (l .i) s (l .at) (l .out) (omega arith) (l .inv .reached) in
-    let e = c .taken .ensures in
-    (e ∙ z .0, (z .1, rw e (omega arith)))
+    turn-last (a .state) (a .portion .now) (a .out .now) (l .i) s (l .at) (l .out) (c .taken .result) (l .inv) (omega arith) (c .taken .ensures)
 
 pub feed-bytes-spec : {M : Type 1} → statement M
 feed-bytes-spec =

@@ -32,11 +32,11 @@ returns-2 c =
     let last = c .before .before .before .before .last-progress .result in
     let f = c .before .before .on-end .ensures in
     let q = finish-roomy (a .state) (length (a .out .now)) (omega arith) ∙ ap endOf (sym (c .before .before .before .before .last-progress .ensures)) in
-    let k : length (c .before .before .on-end .last .1 .0) ≡ length (a .out .now) = ap length (f .1) ∙ simp length-sets in (
-      f .0 ∙ ap length (sym q),
+    let k : length (c .before .before .on-end .last .1 .0) ≡ length (a .out .now) = ap length (f .output) ∙ simp length-sets in (
+      omega (arith, f .place-after, ap length q),
       (
-        f .1 ∙ ap (sets (a .out .now) 0) (sym q),
-        omega (arith, f .0, end-short (last .done) (endRefusal (last .stage))),
+        f .output ∙ ap (sets (a .out .now) 0) (sym q),
+        omega (arith, f .place-after, end-short (last .done) (endRefusal (last .stage))),
       ),
     )
 

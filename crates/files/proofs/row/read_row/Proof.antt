@@ -5,7 +5,7 @@ use native.Mathlib.Omega.{arith}
 use lib.ListN.{length, getD}
 use borrow.Author.Tests.{not-true, not-false}
 use Rattle.files.specs.Row.{rowWidths}
-use Rattle.files.proofs.RowLaws.{narrow-row, row-fits, row-shape, row-number, row-block, row-accepted, row-told}
+use Rattle.files.proofs.RowLaws.{row-readable, row-fits, row-shape, row-number, row-block, row-accepted, row-told}
 use borrow.Author.Needs.{needs}
 use Rattle.files.proofs.row.read_row.Statement.{statement}
 use Rattle.files.proofs.row.read_row.Tie as tie
@@ -17,7 +17,7 @@ slice-aggregate-read-line : tie.Need-slice-aggregate-read-line
 slice-aggregate-read-line c = search needs
 
 read-line-requires : tie.Need-read-line-requires
-read-line-requires c κs = (omega arith, omega arith, narrow-row)
+read-line-requires c κs = row-readable
 
 returns : tie.Need-returns
 returns c =

@@ -6,7 +6,7 @@ use native.Mathlib.Omega.{arith}
 use lib.ListN.{length, getD}
 use borrow.Author.Tests.{not-true, not-false}
 use Rattle.files.specs.SettingsLine.{settingsWidths}
-use Rattle.files.proofs.SettingsLineLaws.{narrow-settings, settings-fits, settings-shape, settings-checked, settings-accepted, settings-told}
+use Rattle.files.proofs.SettingsLineLaws.{settings-readable, settings-fits, settings-shape, settings-checked, settings-accepted, settings-told}
 use borrow.Author.Needs.{needs}
 use Rattle.files.proofs.settings_line.read_settings_line.Statement.{statement}
 use Rattle.files.proofs.settings_line.read_settings_line.Tie as tie
@@ -19,7 +19,7 @@ slice-aggregate-read-line : tie.Need-slice-aggregate-read-line
 slice-aggregate-read-line c = search needs
 
 read-line-requires : tie.Need-read-line-requires
-read-line-requires c κs = (omega arith, omega arith, narrow-settings)
+read-line-requires c κs = settings-readable
 
 returns : tie.Need-returns
 returns c =

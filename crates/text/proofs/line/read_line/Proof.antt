@@ -32,7 +32,7 @@ read-digits-requires c κs =
     let l = c .before .before .loop in
     let ws = c .before .before .before .before .before .args .widths .now in
     let s = c .before .before .before .before .before .args .s .now in
-    (omega arith, narrow-at ws (l .k) (c .before .before .before .before .before .pre .2))
+    (omega arith, narrow-at ws (l .k) (c .before .before .before .before .before .pre .each))
 
 wrong-requires : tie.Need-wrong-requires Inv-loop μ-loop
 wrong-requires c κs = search needs
@@ -43,7 +43,7 @@ returns c =
     let ws = c .before .before .before .before .before .before .before .before .before .args .widths .now in
     let s = c .before .before .before .before .before .before .before .before .before .args .s .now in
     let d = c .before .before .before .read-digits in
-    let e = digits-count (d .result) (getD ws (l .k) 0) (drop (l .at) s) (d .ensures .0) in
+    let e = digits-count (d .result) (getD ws (l .k) 0) (drop (l .at) s) (d .ensures .digits) in
     c .wrong .ensures ∙ line-wrong ws s (omega arith) (sym (l .inv .shape) ∙ turn-empty ws s (l .k) (l .at) (omega arith) (omega arith))
 
 add-end : tie.Need-add-end Inv-loop μ-loop
@@ -67,7 +67,7 @@ returns-2 c =
     let ws = c .before .before .before .before .before .before .before .before .before .before .before .before .before .args .widths .now in
     let s = c .before .before .before .before .before .before .before .before .before .before .before .before .before .args .s .now in
     let d = c .before .before .before .before .before .before .before .read-digits in
-    let e = digits-count (d .result) (getD ws (l .k) 0) (drop (l .at) s) (d .ensures .0) in
+    let e = digits-count (d .result) (getD ws (l .k) 0) (drop (l .at) s) (d .ensures .digits) in
     c .wrong2 .ensures ∙ line-wrong ws s (omega arith) (sym (l .inv .shape) ∙ turn-open ws s (l .k) (l .at) (omega arith) (λ q. c .before .if2 .taken (c .before .before .before .byte-at .ensures ∙ rw e q ∙ sym (c .before .before .field-closer .ensures))))
 
 mul-numbers : tie.Need-mul-numbers Inv-loop μ-loop
@@ -82,7 +82,7 @@ add-at c =
     let ws = c .before .before .before .before .before .before .before .before .before .before .before .before .args .widths .now in
     let s = c .before .before .before .before .before .before .before .before .before .before .before .before .args .s .now in
     let d = c .before .before .before .before .before .before .read-digits in
-    let e = digits-count (d .result) (getD ws (l .k) 0) (drop (l .at) s) (d .ensures .0) in
+    let e = digits-count (d .result) (getD ws (l .k) 0) (drop (l .at) s) (d .ensures .digits) in
     let q = field-closes ws s (l .k) (l .at) (omega arith) _ _ _ e (c .before .before .byte-at .ensures) (c .before .field-closer .ensures) (c .if2 .left) in
     omega arith
 
@@ -95,14 +95,14 @@ loop-again c =
     let ws = c .before .before .before .before .before .before .before .before .before .before .before .before .args .widths .now in
     let s = c .before .before .before .before .before .before .before .before .before .before .before .before .args .s .now in
     let d = c .before .before .before .before .before .before .read-digits in
-    let e = digits-count (d .result) (getD ws (l .k) 0) (drop (l .at) s) (d .ensures .0) in
+    let e = digits-count (d .result) (getD ws (l .k) 0) (drop (l .at) s) (d .ensures .digits) in
     let q = field-closes ws s (l .k) (l .at) (omega arith) _ _ _ e (c .before .before .byte-at .ensures) (c .before .field-closer .ensures) (c .if2 .left) in
     record {
       within = omega arith;
       few = omega arith;
       room = simp length-set (omega arith);
-      shape = rw e (sym (turn-shape ws s (l .k) (l .at) (omega arith) (omega arith) (q .0)) ∙ l .inv .shape);
-      whole = rw (e, ap (λ (x : Digits). x .value) (d .ensures .0)) (sym (turn-numbers ws s (l .k) (l .at) (omega arith) (l .numbers)) ∙ l .inv .whole);
+      shape = rw e (sym (turn-shape ws s (l .k) (l .at) (omega arith) (omega arith) (q .due)) ∙ l .inv .shape);
+      whole = rw (e, ap (λ (x : Digits). x .value) (d .ensures .digits)) (sym (turn-numbers ws s (l .k) (l .at) (omega arith) (l .numbers)) ∙ l .inv .whole);
     }
 
 add-if3 : tie.Need-add-if3 Inv-loop μ-loop

@@ -20,7 +20,7 @@ returns : tie.Need-returns
 returns c =
     let a = c .before .before .before .before .args in
     let e = sym (c .before .closes .ensures) ∙ c .if1 .taken in
-    (cut-closed (a .closer) (a .limit) (a .n) (a .b) (a .held .now) (omega arith) e, refl)
+    record { cut = cut-closed (a .closer) (a .limit) (a .n) (a .b) (a .held .now) (omega arith) e; held = refl }
 
 add-if2 : tie.Need-add-if2
 add-if2 c = search needs
@@ -32,7 +32,7 @@ returns-2 : tie.Need-returns-2
 returns-2 c =
     let a = c .before .before .before .before .before .args in
     let e = sym (c .before .before .closes .ensures) ∙ c .before .if1 .left in
-    (cut-too-long (a .closer) (a .limit) (a .n) (a .b) (a .held .now) (omega arith) e (c .if2 .taken), refl)
+    record { cut = cut-too-long (a .closer) (a .limit) (a .n) (a .b) (a .held .now) (omega arith) e (c .if2 .taken); held = refl }
 
 same-length-3 : tie.Need-same-length-3
 same-length-3 c = search needs
@@ -41,7 +41,7 @@ returns-3 : tie.Need-returns-3
 returns-3 c =
     let a = c .before .before .before .before .before .args in
     let e = sym (c .before .before .closes .ensures) ∙ c .before .if1 .left in
-    (cut-held (a .closer) (a .limit) (a .n) (a .b) (a .held .now) (omega arith) e (c .if2 .left), refl)
+    record { cut = cut-held (a .closer) (a .limit) (a .n) (a .b) (a .held .now) (omega arith) e (c .if2 .left); held = refl }
 
 pub cut-byte-spec : {M : Type 1} → statement M
 cut-byte-spec =

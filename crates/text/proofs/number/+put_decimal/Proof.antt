@@ -5,7 +5,7 @@ use native.Mathlib.Omega.{arith}
 use lib.ListN.{length}
 use lib.Seq.{length-sets}
 use borrow.Author.Needs.{needs}
-use Rattle.text.proofs.DecimalLaws.{decimal-one, put-digit}
+use Rattle.text.proofs.DecimalLaws.{decimal-one, digit-longer, put-digit}
 use Prim.Native.Nat.{ℕ, _<_}
 use borrow.Fn.Kinds.{In}
 use borrow.Fn.PlainCycle.{Measures, is, falls, and}
@@ -62,7 +62,9 @@ put-decimal-returns : (t : ℕ) → put-decimal-lts.Need-returns (
   put-decimal.Post,
 ) (put-decimal-at t) put-decimal.Post
 put-decimal-returns t c =
-    let a = c .before .before .args in let e = decimal-one (a .v) (omega arith) in (rw e, rw e)
+    let a = c .before .before .args in
+    let e = decimal-one (a .v) (omega arith) in
+    record { place-after = rw e; output = rw e }
 
 put-decimal-put-decimal-requires : (t : ℕ) → put-decimal-lts.Need-put-decimal-requires (
   put-decimal-below t,
@@ -71,9 +73,9 @@ put-decimal-put-decimal-requires : (t : ℕ) → put-decimal-lts.Need-put-decima
 put-decimal-put-decimal-requires t c κs =
     let st = c .before .before .before in
     let a = st .args in
-    let m = put-digit (a .out .now) (a .at) (a .v) (omega arith) (omega arith) in
+    let m = digit-longer (a .v) (omega arith) (omega arith) in
     let e = st .pre .0 in
-    (omega arith, omega (arith, m .0, st .pre .1))
+    (omega arith, omega (arith, m, st .pre .1))
 
 put-decimal-add-out-2 : (t : ℕ) → put-decimal-lts.Need-add-out-2 (
   put-decimal-below t,
@@ -95,8 +97,8 @@ put-decimal-slice-write-out-2 t c =
     let a = c .before .before .before .before .before .before .args in
     let p = c .before .before .before .before .before .before .pre .1 in
     let e = c .before .before .put-decimal .ensures in
-    let m = put-digit (a .out .now) (a .at) (a .v) (omega arith) (omega arith) in
-    rw (e .1, length-sets) (omega (arith, m .0, e .0, p))
+    let m = digit-longer (a .v) (omega arith) (omega arith) in
+    rw (e .output, length-sets) (omega (arith, m, e .place-after, p))
 
 put-decimal-add-result-2 : (t : ℕ) → put-decimal-lts.Need-add-result-2 (
   put-decimal-below t,
@@ -106,8 +108,8 @@ put-decimal-add-result-2 t c =
     let a = c .before .before .before .before .before .before .args in
     let p = c .before .before .before .before .before .before .pre .1 in
     let e = c .before .before .put-decimal .ensures in
-    let m = put-digit (a .out .now) (a .at) (a .v) (omega arith) (omega arith) in
-    omega (arith, m .0, e .0, p)
+    let m = digit-longer (a .v) (omega arith) (omega arith) in
+    omega (arith, m, e .place-after, p)
 
 put-decimal-same-length-2 : (t : ℕ) → put-decimal-lts.Need-same-length-2 (
   put-decimal-below t,
@@ -123,8 +125,11 @@ put-decimal-returns-2 t c =
     let a = c .before .before .before .before .before .before .args in
     let p = c .before .before .before .before .before .before .pre .1 in
     let e = c .before .before .put-decimal .ensures in
-    let m = put-digit (a .out .now) (a .at) (a .v) (omega arith) (omega arith) in
-    (omega (arith, m .0, e .0), rw (e .1, e .0) (m .1))
+    let m = digit-longer (a .v) (omega arith) (omega arith) in
+    record {
+      place-after = omega (arith, m, e .place-after);
+      output = rw (e .output, e .place-after) (put-digit (a .out .now) (a .at) (a .v) (omega arith) (omega arith));
+    }
 
 pub +put-decimal-spec : {M : Type 1} → statement M
 +put-decimal-spec = close μ-put-decimal λ t. put-decimal-lts.spec (

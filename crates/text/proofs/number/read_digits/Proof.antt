@@ -25,7 +25,7 @@ returns : tie.Need-returns Inv-loop μ-loop
 returns c =
     let l = c .before .before .loop in
     let a = c .before .before .before .args in
-    (digits-end (a .width) (l .n) (l .v) (a .at + l .n) (a .s .now) (omega arith) (c .if1 .taken) ∙ l .inv .whole, omega arith)
+    record { digits = digits-end (a .width) (l .n) (l .v) (a .at + l .n) (a .s .now) (omega arith) (c .if1 .taken) ∙ l .inv .whole; within = omega arith }
 
 shared-slice-read-b : tie.Need-shared-slice-read-b Inv-loop μ-loop
 shared-slice-read-b c = search needs
@@ -34,13 +34,13 @@ returns-2 : tie.Need-returns-2 Inv-loop μ-loop
 returns-2 c =
     let l = c .before .before .before .before .loop in
     let a = c .before .before .before .before .before .args in
-    (digits-low (a .width) (l .n) (l .v) (a .at + l .n) (a .s .now) (omega arith) (omega arith) (omega arith) ∙ l .inv .whole, omega arith)
+    record { digits = digits-low (a .width) (l .n) (l .v) (a .at + l .n) (a .s .now) (omega arith) (omega arith) (omega arith) ∙ l .inv .whole; within = omega arith }
 
 returns-3 : tie.Need-returns-3 Inv-loop μ-loop
 returns-3 c =
     let l = c .before .before .before .before .before .loop in
     let a = c .before .before .before .before .before .before .args in
-    (digits-high (a .width) (l .n) (l .v) (a .at + l .n) (a .s .now) (omega arith) (omega arith) (omega arith) ∙ l .inv .whole, omega arith)
+    record { digits = digits-high (a .width) (l .n) (l .v) (a .at + l .n) (a .s .now) (omega arith) (omega arith) (omega arith) ∙ l .inv .whole; within = omega arith }
 
 mul-v : tie.Need-mul-v Inv-loop μ-loop
 mul-v c =
@@ -79,7 +79,7 @@ returns-4 : tie.Need-returns-4 Inv-loop μ-loop
 returns-4 c =
     let l = c .before .loop in
     let a = c .before .before .args in
-    (digits-full (a .width) (l .n) (l .v) (a .at + l .n) (a .s .now) (omega arith) ∙ l .inv .whole, omega arith)
+    record { digits = digits-full (a .width) (l .n) (l .v) (a .at + l .n) (a .s .now) (omega arith) ∙ l .inv .whole; within = omega arith }
 
 pub read-digits-spec : {M : Type 1} → statement M
 read-digits-spec =

@@ -1,0 +1,34 @@
+-- A device of code and proofs: what the functions of the crate hand on, each fact by its name.
+use mathlib.Core.Path.{_≡_}
+use mathlib.Core.Bool.{true}
+use mathlib.Core.List.{List, [], _∷_, _++_}
+use Prim.Native.Nat.{ℕ, _+_, _≤_}
+use lib.ListN.{length, take, drop, set}
+use lib.Seq.{sets}
+use Rattle.text.specs.declared.number.Digits.{Digits}
+use Rattle.text.specs.declared.lines.Closer.{Closer}
+use Rattle.text.specs.declared.lines.Cut.{Cut}
+use Rattle.text.specs.Number.{leading, digitsFrom}
+use Rattle.text.specs.Line.{narrow, fieldLimit}
+use Rattle.text.specs.Lines.{cutOf}
+
+-- the digits that stand at a place of the text, at most `width` of them
+pub record DigitsFound (s : List ℕ) (at width : ℕ) (answer : Digits) : Type 0 where
+  pub digits : answer ≡ digitsFrom 0 0 (leading width (drop at s))
+  pub within : at + answer .count ≤ length s
+
+-- widths that the reader of lines takes
+pub record Readable (widths : List ℕ) : Type 0 where
+  pub some : 1 ≤ length widths
+  pub few : length widths ≤ fieldLimit
+  pub each : narrow widths ≡ true
+
+-- these bytes were written at a place and nothing else, and the place after them is answered
+pub record Wrote (before after : List ℕ) (at place : ℕ) (bytes : List ℕ) : Type 0 where
+  pub place-after : place ≡ at + length bytes
+  pub output : after ≡ sets before at bytes
+
+-- one byte more was put after the n bytes held
+pub record ByteCut (closer : Closer) (limit n b : ℕ) (before after : List ℕ) (answer : Cut) : Type 0 where
+  pub cut : answer ≡ cutOf closer limit (take n before ++ (b ∷ []))
+  pub held : after ≡ set before n b
