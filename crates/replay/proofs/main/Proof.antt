@@ -45,7 +45,9 @@ array-share-prefix-out : tie.Need-array-share-prefix-out Inv-loop μ-loop
 array-share-prefix-out c = search needs
 
 slice-aggregate-write-out : tie.Need-slice-aggregate-write-out Inv-loop μ-loop
-slice-aggregate-write-out c = simp length-take (omega (arith, c .before .before .finish .ensures .1 .1))
+slice-aggregate-write-out c =
+    let (written, (output, within)) = c .before .before .finish .ensures in
+    simp length-take (omega (arith, within))
 
 write-out-requires : tie.Need-write-out-requires Inv-loop μ-loop
 write-out-requires c κs = search needs

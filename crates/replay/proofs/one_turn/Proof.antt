@@ -31,7 +31,9 @@ array-share-prefix-out : tie.Need-array-share-prefix-out
 array-share-prefix-out c = search needs
 
 slice-aggregate-write-out : tie.Need-slice-aggregate-write-out
-slice-aggregate-write-out c = simp length-take (omega (arith, c .before .before .take-portion .ensures .1 .1))
+slice-aggregate-write-out c =
+    let (taken, (sound, within)) = c .before .before .take-portion .ensures in
+    simp length-take (omega (arith, within))
 
 write-out-requires : tie.Need-write-out-requires
 write-out-requires c κs = search needs

@@ -16,10 +16,10 @@ same-length c = search needs
 returns : tie.Need-returns
 returns c =
     let a = c .before .before .before .before .before .before .args in
-    let g = c .before .before .before .before .before .before .pre in
-    let f = c .before .before .feed .ensures in
-    let z = sound-answer (a .state) (a .portion .now) (length (a .out .now)) (c .before .before .feed .result) (g .0) (omega (arith, g .0 .short, g .1)) (f .0) in
-    (z .0, (z .1, f .1 .1))
+    let (sound, room) = c .before .before .before .before .before .before .pre in
+    let (answer, (output, within)) = c .before .before .feed .ensures in
+    let (taken, stays) = sound-answer (a .state) (a .portion .now) (length (a .out .now)) (c .before .before .feed .result) sound (omega (arith, sound .short, room)) answer in
+    (taken, (stays, within))
 
 pub take-portion-spec : {M : Type 1} → statement M
 take-portion-spec = tie.close (tie.spec feed-requires same-length returns)

@@ -22,7 +22,8 @@ on-tick-requires : tie.Need-on-tick-requires
 on-tick-requires c κs =
     let a = c .before .before .before .before .before .before .before .before .args in
     let x = c .before .before .before .answer .given .0 .0 in
-    let q = sym (c .before .before .before .before .before .read-row .ensures .0) ∙ c .before .before .before .answer .given .1 in
+    let (answer, number) = c .before .before .before .before .before .read-row .ensures in
+    let q = sym answer ∙ c .before .before .before .answer .given .1 in
     let k = accepted-row (a .line .now) (a .p .done) x q in
     (omega arith, omega (arith, c .before .before .before .before .before .before .before .before .pre))
 
@@ -39,7 +40,8 @@ returns : tie.Need-returns
 returns c =
     let a = c .before .before .before .before .before .before .before .before .before .before .before .args in
     let x = c .before .before .before .before .before .before .answer .given .0 .0 in
-    let q = sym (c .before .before .before .before .before .before .before .before .read-row .ensures .0) ∙ c .before .before .before .before .before .before .answer .given .1 in
+    let (answer, number) = c .before .before .before .before .before .before .before .before .read-row .ensures in
+    let q = sym answer ∙ c .before .before .before .before .before .before .answer .given .1 in
     let r = rowAnswer (a .line .now) (a .p .done) in
     let t = c .before .before .before .before .tick in
     let f = c .before .before .on-tick .ensures in
@@ -56,7 +58,8 @@ returns-2 c =
     let a = c .before .before .before .before .before .before .before .args in
     let r = rowAnswer (a .line .now) (a .p .done) in
     let n = c .before .before .answer2 .given .0 .0 in
-    let q = sym (c .before .before .before .before .read-row .ensures .0) ∙ c .before .before .answer2 .given .1 in
+    let (answer, number) = c .before .before .before .before .read-row .ensures in
+    let q = sym answer ∙ c .before .before .answer2 .given .1 in
     record {
       noted = refused-noted (a .p) r n q (c .stop .result) (a .at) (c .stop .ensures);
       output = refused-quiet (a .p) r n q (a .out .now) (a .at);

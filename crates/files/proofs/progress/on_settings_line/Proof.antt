@@ -21,12 +21,14 @@ stop-requires c κs = search needs
 returns : tie.Need-returns
 returns c =
     let a = c .before .before .before .before .before .before .args in
-    ap (opened (a .p)) (sym (c .before .before .answer .given .1) ∙ c .before .before .before .before .read-settings-line .ensures .0)
+    let (answer, number) = c .before .before .before .before .read-settings-line .ensures in
+    ap (opened (a .p)) (sym (c .before .before .answer .given .1) ∙ answer)
 
 returns-2 : tie.Need-returns-2
 returns-2 c =
     let a = c .before .before .before .before .before .before .args in
-    c .stop .ensures ∙ ap (opened (a .p)) (sym (c .before .before .answer2 .given .1) ∙ c .before .before .before .before .read-settings-line .ensures .0)
+    let (answer, number) = c .before .before .before .before .read-settings-line .ensures in
+    c .stop .ensures ∙ ap (opened (a .p)) (sym (c .before .before .answer2 .given .1) ∙ answer)
 
 pub on-settings-line-spec : {M : Type 1} → statement M
 on-settings-line-spec =

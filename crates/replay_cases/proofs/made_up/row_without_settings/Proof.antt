@@ -34,7 +34,9 @@ array-share-prefix-end : tie.Need-array-share-prefix-end
 array-share-prefix-end c = search needs
 
 slice-aggregate-say-2 : tie.Need-slice-aggregate-say-2
-slice-aggregate-say-2 c = simp length-take (omega (arith, c .before .before .finish .ensures .1 .1))
+slice-aggregate-say-2 c =
+    let (written, (output, within)) = c .before .before .finish .ensures in
+    simp length-take (omega (arith, within))
 
 say-requires-2 : tie.Need-say-requires-2
 say-requires-2 c κs = search needs

@@ -54,10 +54,10 @@ feed-requires c κs = search needs
 
 add-at : tie.Need-add-at Inv-loop μ-loop
 add-at c =
-    let t = c .before .before .before .before .feed in
-    let k = simp (length-sets, length-take, length-drop) at (ap length (t .ensures .1 .0)) in
+    let (answer, (output, within)) = c .before .before .before .before .feed .ensures in
+    let k = simp (length-sets, length-take, length-drop) at (ap length output) in
     let l = c .before .before .before .before .before .before .before .before .before .loop in
-    omega (arith, t .ensures .1 .1, k, l .inv, c .before .before .before .before .before .before .before .before .before .before .before .before .before .pre)
+    omega (arith, within, k, l .inv, c .before .before .before .before .before .before .before .before .before .before .before .before .before .pre)
 
 loop-less : tie.Need-loop-less Inv-loop μ-loop
 loop-less c = search needs
