@@ -25,7 +25,9 @@ slice-aggregate-take-portion-2 : tie.Need-slice-aggregate-take-portion-2
 slice-aggregate-take-portion-2 c = search needs
 
 take-portion-requires : tie.Need-take-portion-requires
-take-portion-requires c κs = (c .before .before .before .before .before .before .pre, simp length-take (omega (arith, c .before .before .before .before .read-portion .ensures .0)))
+take-portion-requires c κs =
+    let (within, counted) = c .before .before .before .before .read-portion .ensures in
+    (c .before .before .before .before .before .before .pre, simp length-take (omega (arith, within)))
 
 array-share-prefix-out : tie.Need-array-share-prefix-out
 array-share-prefix-out c = search needs

@@ -74,8 +74,8 @@ put-decimal-put-decimal-requires t c κs =
     let st = c .before .before .before in
     let a = st .args in
     let m = digit-longer (a .v) (omega arith) (omega arith) in
-    let e = st .pre .0 in
-    (omega arith, omega (arith, m, st .pre .1))
+    let (same, room) = st .pre in
+    (omega (arith, same), omega (arith, m, room))
 
 put-decimal-add-out-2 : (t : ℕ) → put-decimal-lts.Need-add-out-2 (
   put-decimal-below t,
@@ -95,10 +95,10 @@ put-decimal-slice-write-out-2 : (t : ℕ) → put-decimal-lts.Need-slice-write-o
 ) (put-decimal-at t) put-decimal.Post
 put-decimal-slice-write-out-2 t c =
     let a = c .before .before .before .before .before .before .args in
-    let p = c .before .before .before .before .before .before .pre .1 in
+    let (same, room) = c .before .before .before .before .before .before .pre in
     let e = c .before .before .put-decimal .ensures in
     let m = digit-longer (a .v) (omega arith) (omega arith) in
-    rw (e .output, length-sets) (omega (arith, m, e .place-after, p))
+    rw (e .output, length-sets) (omega (arith, m, e .place-after, room))
 
 put-decimal-add-result-2 : (t : ℕ) → put-decimal-lts.Need-add-result-2 (
   put-decimal-below t,
@@ -106,10 +106,10 @@ put-decimal-add-result-2 : (t : ℕ) → put-decimal-lts.Need-add-result-2 (
 ) (put-decimal-at t) put-decimal.Post
 put-decimal-add-result-2 t c =
     let a = c .before .before .before .before .before .before .args in
-    let p = c .before .before .before .before .before .before .pre .1 in
+    let (same, room) = c .before .before .before .before .before .before .pre in
     let e = c .before .before .put-decimal .ensures in
     let m = digit-longer (a .v) (omega arith) (omega arith) in
-    omega (arith, m, e .place-after, p)
+    omega (arith, m, e .place-after, room)
 
 put-decimal-same-length-2 : (t : ℕ) → put-decimal-lts.Need-same-length-2 (
   put-decimal-below t,
@@ -123,7 +123,6 @@ put-decimal-returns-2 : (t : ℕ) → put-decimal-lts.Need-returns-2 (
 ) (put-decimal-at t) put-decimal.Post
 put-decimal-returns-2 t c =
     let a = c .before .before .before .before .before .before .args in
-    let p = c .before .before .before .before .before .before .pre .1 in
     let e = c .before .before .put-decimal .ensures in
     let m = digit-longer (a .v) (omega arith) (omega arith) in
     record {
