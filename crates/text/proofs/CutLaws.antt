@@ -1,5 +1,4 @@
--- Cutting a stream into lines, byte by byte and portion by portion: for any cutting into portions the lines are those of the
--- whole, and of a line that is too long the cutter has seen the first bytes, as many as its limit.
+-- What a byte does to the line that has begun, and the lines of a stream one byte on.
 -- Assumes nothing.
 use mathlib.Core.Path.{_≡_, refl, sym, ap, _∙_}
 use mathlib.Core.Bool.{Bool, true, false, cond, _&&_, and-false, or-false}
@@ -111,69 +110,3 @@ joined-none = refl
 pub joined-more : (p : List ℕ) (ps : List (List ℕ)) → joined (p ∷ ps) ≡ p ++ joined ps
 unfolding joined
 joined-more p ps = refl
-
--- ---- a portion: the lines that it closes, after `line` was held, and what is held then
-
-unfoldable pub cutLines : Closer → List ℕ → List ℕ → List (List ℕ)
-cutLines closer line [] = []
-cutLines closer line (b ∷ s) =
-    cond (closedBy closer (line ++ (b ∷ []))) ((line ++ (b ∷ [])) ∷ cutLines closer [] s) (cutLines closer (line ++ (b ∷ [])) s)
-
-unfoldable pub cutRest : Closer → List ℕ → List ℕ → List ℕ
-cutRest closer line [] = line
-cutRest closer line (b ∷ s) =
-    cond (closedBy closer (line ++ (b ∷ []))) (cutRest closer [] s) (cutRest closer (line ++ (b ∷ [])) s)
-
-portion-if : (closer : Closer) (t : Bool) (l s u : List ℕ)
-    → linesFrom closer [] (s ++ u) ≡ cutLines closer [] s ++ linesFrom closer (cutRest closer [] s) u
-    → linesFrom closer l (s ++ u) ≡ cutLines closer l s ++ linesFrom closer (cutRest closer l s) u
-    → cond t (l ∷ linesFrom closer [] (s ++ u)) (linesFrom closer l (s ++ u))
-    ≡ cond t (l ∷ cutLines closer [] s) (cutLines closer l s) ++ linesFrom closer (cond t (cutRest closer [] s) (cutRest closer l s)) u
-portion-if closer true l s u e f = ap (λ (ls : List (List ℕ)). l ∷ ls) e
-portion-if closer false l s u e f = f
-
--- what is left of the stream after a portion gives the rest of its lines
-lines-portion : (closer : Closer) (l s u : List ℕ) → linesFrom closer l (s ++ u) ≡ cutLines closer l s ++ linesFrom closer (cutRest closer l s) u
-unfolding cutLines cutRest
-lines-portion closer l [] u = refl
-lines-portion closer l (b ∷ s) u =
-    lines-cons closer l (s ++ u) b
-    ∙ portion-if closer (closedBy closer (l ++ (b ∷ []))) (l ++ (b ∷ [])) s u (lines-portion closer [] s u) (lines-portion closer (l ++ (b ∷ [])) s u)
-
--- portions one after the other, and then the end
-unfoldable pub cutAll : Closer → List ℕ → List (List ℕ) → List (List ℕ)
-cutAll closer line [] = lastLine line
-cutAll closer line (p ∷ ps) = cutLines closer line p ++ cutAll closer (cutRest closer line p) ps
-
-all-lines : (closer : Closer) (l : List ℕ) (ps : List (List ℕ)) → cutAll closer l ps ≡ linesFrom closer l (joined ps)
-unfolding cutAll joined
-all-lines closer l [] = sym (lines-nil closer l)
-all-lines closer l (p ∷ ps) = rw (all-lines closer (cutRest closer l p) ps) (sym (lines-portion closer l p (joined ps)))
-
--- WHAT A CLIENT RELIES ON: whatever the portions, the lines that are cut are those of the whole stream
-pub lines-of-portions : (closer : Closer) (ps : List (List ℕ)) → cutAll closer [] ps ≡ linesOf closer (joined ps)
-lines-of-portions closer ps = all-lines closer [] ps
-
--- ---- a line that is too long: what was seen of it are its first bytes
-
-unfoldable pub firstLine : List (List ℕ) → List ℕ
-firstLine [] = []
-firstLine (l ∷ ls) = l
-
-first-begins : (closer : Closer) (l s : List ℕ) → 0 < length l → take (length l) (firstLine (linesFrom closer l s)) ≡ l
-unfolding firstLine
-first-begins closer l [] h = rw (lines-nil closer l, last-line l h) (take-length l)
-first-begins closer l (b ∷ s) h =
-    let n : length (l ++ (b ∷ [])) ≡ length l + 1 = length-append l (b ∷ []) in
-    rw (lines-cons closer l s b)
-    (by-cond (λ (ls : List (List ℕ)). take (length l) (firstLine ls) ≡ l) (closedBy closer (l ++ (b ∷ []))) ((l ++ (b ∷ [])) ∷ linesFrom closer [] s) (linesFrom closer (l ++ (b ∷ [])) s)
-    (λ e. take-append-seam l (b ∷ []))
-    (λ e.
-    sym (take-take (length l) (length (l ++ (b ∷ []))) (firstLine (linesFrom closer (l ++ (b ∷ [])) s)) (omega arith))
-    ∙ ap (take (length l)) (first-begins closer (l ++ (b ∷ [])) s (omega arith))
-    ∙ take-append-seam l (b ∷ [])))
-
-pub too-long-seen : (closer : Closer) (limit : ℕ) (line s : List ℕ) → 0 < limit → cutOf closer limit line ≡ TooLong → take limit (firstLine (linesFrom closer line s)) ≡ line
-too-long-seen closer limit line s h e =
-    let n = too-long-length closer limit line e in
-    ap (λ (k : ℕ). take k (firstLine (linesFrom closer line s))) (sym n) ∙ first-begins closer line s (omega arith)

@@ -8,3 +8,4 @@ pub mod ShapeLaws
 pub mod LineLaws
 pub mod LinesLaws
 pub mod CutLaws
+pub mod CuttingLaws

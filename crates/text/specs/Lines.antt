@@ -1,5 +1,5 @@
 -- The lines of a stream (01's data rows), closed by CR LF or by LF alone.
-use mathlib.Core.Bool.{Bool, false, cond, _||_}
+use mathlib.Core.Bool.{Bool, true, false, cond, _||_}
 use mathlib.Core.List.{List, [], _∷_, _++_}
 use Prim.Native.Nat.{ℕ}
 use lib.Dec.{eqb}
@@ -41,6 +41,30 @@ linesOf closer s = linesFrom closer [] s
 -- client takes, and not closed; or to be held.
 abbrev pub cutOf : Closer → ℕ → List ℕ → Cut
 cutOf closer limit line = cond (closedBy closer line) Closed (cond (eqb (length line) limit) TooLong Held)
+
+-- What the cutter makes of a stream, byte by byte: the lines that it closes, what it holds at the end, and whether that is too
+-- long; then what came after it was not looked at.
+pub record Cutting : Type 0 where
+  pub lines : List (List ℕ)
+  pub held : List ℕ
+  pub tooLong : Bool
+  pub unread : List ℕ
+
+abbrev pub oneMore : List ℕ → Cutting → Cutting
+oneMore line c = record { lines = line ∷ c .lines; held = c .held; tooLong = c .tooLong; unread = c .unread }
+
+-- by what the next byte did to the line: held, the cutting goes on with the line; closed, with none
+abbrev pub cuttingBy : Cut → List ℕ → List ℕ → Cutting → Cutting → Cutting
+cuttingBy Held line s held closed = held
+cuttingBy Closed line s held closed = oneMore line closed
+cuttingBy TooLong line s held closed = record { lines = []; held = line; tooLong = true; unread = s }
+
+unfoldable pub cutting : Closer → ℕ → List ℕ → List ℕ → Cutting
+cutting closer limit line [] = record { lines = []; held = line; tooLong = false; unread = [] }
+cutting closer limit line (b ∷ s) =
+    cuttingBy (cutOf closer limit (line ++ (b ∷ []))) (line ++ (b ∷ [])) s
+    (cutting closer limit (line ++ (b ∷ [])) s)
+    (cutting closer limit [] s)
 
 -- the stream that portions are
 unfoldable pub joined : List (List ℕ) → List ℕ
