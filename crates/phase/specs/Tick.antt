@@ -19,6 +19,8 @@ use Rattle.phase.specs.Refusals.{invalidState}
 use Rattle.phase.specs.Settings.{settingsChecks, tripLevel}
 use Rattle.phase.specs.State.{runLimit, clearState, valid}
 
+-- "A sample g is any unsigned 32-bit number, in units of 0.01 % of rated current."
+
 -- the gain and the loss of a tick with the sample g, at its ratio to the start current
 abbrev pub gainAt : Settings → ℕ → ℕ
 gainAt settings g = gainOf (settings .operation) (ratioOf g (settings .«start_current»))
