@@ -24,7 +24,8 @@ pub record WroteWithin (room : ℕ) (before after : List ℕ) (at place : ℕ) (
   pub short : place ≤ at + room
 
 -- a line was noted: the progress after it, and what it wrote at a place, at most `room` bytes
-pub record LineNoted (room : ℕ) (before after : List ℕ) (at : ℕ) (p : Progress) (bytes : List ℕ) (answer : Noted) : Type 0 where
+pub record LineNoted (room : ℕ) (before after : List ℕ) (at : ℕ) (p : Progress) (bytes : List ℕ) (answer : Noted)
+    : Type 0 where
   pub noted : answer ≡ notedOf p bytes at
   pub output : after ≡ sets before at bytes
   pub short : answer .written ≤ at + room

@@ -8,7 +8,8 @@ use Rattle.files.proofs.progress.note_change.Tie as tie
 
 returns : tie.Need-returns
 returns c =
-    let n = eq-eqb _ _ (c .if1 .taken) in
+    let a = c .before .before .args in
+    let n = eq-eqb (a .outputs) (a .before) (c .if1 .taken) in
     record { wrote = record { place-after = simp n (omega arith); output = simp n }; short = omega arith }
 
 put-change-requires : tie.Need-put-change-requires
@@ -20,7 +21,8 @@ same-length c = search needs
 returns-2 : tie.Need-returns-2
 returns-2 c =
     let e = c .before .before .put-change .ensures in
-    let n = ne-eqb _ _ (c .before .before .before .before .if1 .left) in
+    let a = c .before .before .before .before .before .before .args in
+    let n = ne-eqb (a .outputs) (a .before) (c .before .before .before .before .if1 .left) in
     record { wrote = record { place-after = simp n (e .wrote .place-after); output = simp n (e .wrote .output) }; short = e .short }
 
 pub note-change-spec : {M : Type 1} → statement M
