@@ -47,7 +47,14 @@ first-failed-requires-7 : tie.Need-first-failed-requires-7
 first-failed-requires-7 c κs = search needs
 
 returns : tie.Need-returns
-returns c = rw (c .first-failed7 .ensures, c .before .in-range7 .ensures, c .before .before .first-failed6 .ensures, c .before .before .before .in-range6 .ensures, c .before .before .before .before .first-failed5 .ensures, c .before .before .before .before .before .in-range5 .ensures, c .before .before .before .before .before .before .first-failed4 .ensures, c .before .before .before .before .before .before .before .in-range4 .ensures, c .before .before .before .before .before .before .before .before .first-failed3 .ensures, c .before .before .before .before .before .before .before .before .before .in-range3 .ensures, c .before .before .before .before .before .before .before .before .before .before .first-failed2 .ensures, c .before .before .before .before .before .before .before .before .before .before .before .in-range2 .ensures, c .before .before .before .before .before .before .before .before .before .before .before .before .first-failed .ensures, c .before .before .before .before .before .before .before .before .before .before .before .before .before .in-range .ensures)
+returns c =
+    let c6 = c .before .before in
+    let c5 = c6 .before .before in
+    let c4 = c5 .before .before in
+    let c3 = c4 .before .before in
+    let c2 = c3 .before .before in
+    let c1 = c2 .before .before in
+    rw (c .first-failed7 .ensures, c .before .in-range7 .ensures, c6 .first-failed6 .ensures, c6 .before .in-range6 .ensures, c5 .first-failed5 .ensures, c5 .before .in-range5 .ensures, c4 .first-failed4 .ensures, c4 .before .in-range4 .ensures, c3 .first-failed3 .ensures, c3 .before .in-range3 .ensures, c2 .first-failed2 .ensures, c2 .before .in-range2 .ensures, c1 .first-failed .ensures, c1 .before .in-range .ensures)
 
 pub settings-first-failed-spec : {M : Type 1} → statement M
 settings-first-failed-spec =
