@@ -20,12 +20,12 @@ use Rattle.files.proofs.PortionLaws.{fed-sound, fresh-sound, feedAll, r
 -- ---- feeding
 
 module _ (r : Replay) (s : List ℕ) (room : ℕ) where
-  module _ (e : takes (r .count) (length s) room ≡ true) where
-    pub taken-short : r .count < lineLimit
-    taken-short = ltb-true (r .count) lineLimit (both-true (ltb (r .count) lineLimit) (leb (portionRoom (r .count) (length s)) room) e .0)
+  module _ (e : takes (r .cutter .count) (length s) room ≡ true) where
+    pub taken-short : r .cutter .count < lineLimit
+    taken-short = ltb-true (r .cutter .count) lineLimit (both-true (ltb (r .cutter .count) lineLimit) (leb (portionRoom (r .cutter .count) (length s)) room) e .0)
 
-    pub taken-room : portionRoom (r .count) (length s) ≤ room
-    taken-room = leb-true (portionRoom (r .count) (length s)) room (both-true (ltb (r .count) lineLimit) (leb (portionRoom (r .count) (length s)) room) e .1)
+    pub taken-room : portionRoom (r .cutter .count) (length s) ≤ room
+    taken-room = leb-true (portionRoom (r .cutter .count) (length s)) room (both-true (ltb (r .cutter .count) lineLimit) (leb (portionRoom (r .cutter .count) (length s)) room) e .1)
 
     pub taken-answer : feedAnswer r s room ≡ fedBy r s
     unfolding fedIf
@@ -35,7 +35,7 @@ module _ (r : Replay) (s : List ℕ) (room : ℕ) where
     unfolding writesIf
     taken-writes = ap (λ (t : Bool). writesIf t r s) e
 
-  module _ (e : takes (r .count) (length s) room ≡ false) where
+  module _ (e : takes (r .cutter .count) (length s) room ≡ false) where
     pub untaken-answer : feedAnswer r s room ≡ record { taken = false; state = r; written = 0 }
     unfolding fedIf
     untaken-answer = ap (λ (t : Bool). fedIf t r s) e
@@ -45,11 +45,11 @@ module _ (r : Replay) (s : List ℕ) (room : ℕ) where
     untaken-writes = ap (λ (t : Bool). writesIf t r s) e
 
   -- a replay that began fresh takes every portion, where the output is as large as the portion and what is held
-  pub sound-takes : Sound r → portionRoom (r .count) (length s) ≤ room → takes (r .count) (length s) room ≡ true
-  sound-takes h k = rw (lt-ltb (r .count) lineLimit (omega (arith, h .short)), le-leb (portionRoom (r .count) (length s)) room k)
+  pub sound-takes : Sound r → portionRoom (r .cutter .count) (length s) ≤ room → takes (r .cutter .count) (length s) room ≡ true
+  sound-takes h k = rw (lt-ltb (r .cutter .count) lineLimit (omega (arith, h .short)), le-leb (portionRoom (r .cutter .count) (length s)) room k)
 
   -- and stays sound
-  pub sound-answer : (x : Fed) → Sound r → portionRoom (r .count) (length s) ≤ room → x ≡ feedAnswer r s room → (x .taken ≡ true) × (Sound (x .state))
+  pub sound-answer : (x : Fed) → Sound r → portionRoom (r .cutter .count) (length s) ≤ room → x ≡ feedAnswer r s room → (x .taken ≡ true) × (Sound (x .state))
   sound-answer x h k e =
       let q : x ≡ fedBy r s = e ∙ taken-answer (sound-takes h k) in
       rw q (refl, fed-sound r s h)
@@ -82,7 +82,7 @@ unfolding handedOut roomFor feedAll finishIf
 handed-fed r [] room h k e = rw (le-leb endRoom room k)
 handed-fed r (p ∷ ps) room h k e =
     let m = leb-true (portionRoom longestLine (length p)) room (both-true (leb (portionRoom longestLine (length p)) room) (roomFor ps room) e .0) in
-    let t : takes (r .count) (length p) room ≡ true = sound-takes r p room h (omega (arith, h .short, m)) in
+    let t : takes (r .cutter .count) (length p) room ≡ true = sound-takes r p room h (omega (arith, h .short, m)) in
     let q : feedAnswer r p room .state ≡ fed r p = ap (λ (x : Fed). x .state) (taken-answer r p room t) in
     rw (taken-writes r p room t, q) (ap (λ (w : List ℕ). writes r p ++ w) (handed-fed (fed r p) ps room (fed-sound r p h) k (both-true (leb (portionRoom longestLine (length p)) room) (roomFor ps room) e .1)))
 

@@ -1,33 +1,32 @@
--- How far the code has come in a portion, turn by turn.
+-- How far the code has come in a portion, piece by piece.
 -- Assumes nothing.
 use mathlib.Core.Path.{_≡_, refl, sym, ap, _∙_}
 use mathlib.Core.Bool.{true}
 use mathlib.Core.List.{List, [], _∷_, _++_, append-assoc, append-nil}
 use Prim.Native.Nat.{ℕ, _+_, _≤_, _<_}
-use native.Mathlib.Numerals.{add-one}
+use native.Mathlib.Nat.{add-zero}
 use native.Mathlib.Omega.{arith}
-use lib.ListN.{length, getD, take, length-append, length-set, length-take}
-use lib.Seq.{sets, length-sets, take-suc, take-all}
+use lib.ListN.{length, take, drop, length-append, length-set, length-take, length-drop, take-append-drop, drop-of-length-le}
+use lib.Seq.{sets, length-sets, drop-drop}
+use Rattle.text.specs.declared.lines.Closer.the-variants.{CrLf}
+use Rattle.text.specs.declared.lines.Cut.{Cut}
+use Rattle.text.specs.declared.lines.Cut.the-variants.{Held, Closed, TooLong}
+use Rattle.text.specs.declared.cutter.Cutter.{Cutter}
+use Rattle.text.specs.declared.cutter.PieceCut.{PieceCut}
+use Rattle.text.specs.Lines.{cutOf}
+use Rattle.text.specs.Cutter.{Piece, pieceBy, pieceOf, heldRoom, heldLine, holding, emptied, cutFrom, pieceAnswer}
 use Rattle.files.specs.declared.progress.Progress.{Progress}
 use Rattle.files.specs.declared.progress.Noted.{Noted}
 use Rattle.files.specs.declared.replay.Replay.{Replay}
 use Rattle.files.specs.declared.replay.Fed.{Fed}
-use Rattle.text.specs.declared.lines.Closer.the-variants.{CrLf}
-use Rattle.text.specs.declared.lines.Cut.{Cut}
-use Rattle.text.specs.declared.lines.Cut.the-variants.{Held, Closed, TooLong}
 use Rattle.files.specs.Progress.{afterLine, wroteLine, refuse}
+use Rattle.files.specs.Replay.{lineLimit, nextCut, afterCut, wroteCut, fedByte, wroteByte, fed, writes}
 use Rattle.files.specs.device.Calls.{LineNoted, PortionFed}
-use Rattle.files.specs.Replay.{lineLimit, nextLine, nextCut, fedByteBy, wroteByteBy, fedByte, wroteByte, fed, writes}
-use Rattle.text.specs.device.Calls.{ByteCut}
 use Rattle.text.proofs.StoreLaws.{sets-append}
-use Rattle.text.proofs.CutLaws.{next-length, held-not-full}
-use Rattle.files.proofs.PortionLaws.{next-held}
+use Rattle.text.proofs.CutLaws.{by-cut, next-length}
+use Rattle.text.proofs.PieceLaws.{IsPiece, is-piece, held-with, holding-on, answer-short}
 
--- the bytes held stay as many
-pub same-room : (limit n b : ℕ) (held held' : List ℕ) (cut : Cut) → ByteCut CrLf limit n b held held' cut → length held ≡ lineLimit → length held' ≡ lineLimit
-same-room limit n b held held' cut c h = rw (c .held, length-set) h
-
--- ---- a portion with one more at the end
+-- ---- a portion in two parts
 
 fed-append : (r : Replay) (s t : List ℕ) → fed r (s ++ t) ≡ fed (fed r s) t
 unfolding fed
@@ -39,131 +38,188 @@ unfolding fed writes
 writes-append r [] t = refl
 writes-append r (b ∷ s) t = rw (writes-append (fedByte r b) s t) (sym (append-assoc (wroteByte r b) _ _))
 
-module _ (r : Replay) (p : List ℕ) (i : ℕ) (h : i < length p) where
-  fed-more : fed r (take (i + 1) p) ≡ fedByte (fed r (take i p)) (getD p i 0)
-  unfolding fed
-  fed-more = rw (add-one, take-suc p i 0 h, fed-append r (take i p) (getD p i 0 ∷ []))
+-- ---- a piece of a portion: only its last byte does more than to be held
 
-  writes-more : writes r (take (i + 1) p) ≡ writes r (take i p) ++ wroteByte (fed r (take i p)) (getD p i 0)
-  unfolding writes
-  writes-more = rw (add-one, take-suc p i 0 h, writes-append r (take i p) (getD p i 0 ∷ []), append-nil)
+pub record PieceFed (r : Replay) (x : Piece) : Type 0 where
+  pub state : fed r (x .bytes) ≡ afterCut (x .cut) (r .progress) (holding (r .cutter) (x .bytes))
+  pub wrote : writes r (x .bytes) ≡ wroteCut (x .cut) (r .progress) (holding (r .cutter) (x .bytes))
 
--- ---- the state s is reached after i bytes of the portion p, and what they write stands in the output, up to the place at
+module _ (r : Replay) (b : ℕ) where
+  abbrev one : Cutter
+  one = holding (r .cutter) (b ∷ [])
 
-pub record Reached (r : Replay) (p : List ℕ) (before : List ℕ) (i : ℕ) (s : Replay) (at : ℕ) (out : List ℕ) : Type 0 where
-  pub state : s ≡ fed r (take i p)
-  pub place : at ≡ length (writes r (take i p))
-  pub bytes : out ≡ sets before 0 (writes r (take i p))
+  piece-last : (k : Cut) → nextCut r b ≡ k → PieceFed r (record { cut = k; bytes = b ∷ [] })
+  unfolding fed writes
+  piece-last k e = record {
+    state = ap (λ (t : Cut). afterCut t (r .progress) one) e;
+    wrote = append-nil (wroteByte r b) ∙ ap (λ (t : Cut). wroteCut t (r .progress) one) e;
+  }
 
-reached-none : (r : Replay) (p out : List ℕ) → Reached r p out 0 r 0 out
-unfolding fed writes
-reached-none r p out = record { state = refl; place = refl; bytes = refl }
-
-module _ (r : Replay) (p before : List ℕ) (i : ℕ) (s : Replay) (at : ℕ) (out : List ℕ) (k : i < length p) (h : Reached r p before i s at out) where
-  abbrev byte : ℕ
-  byte = getD p i 0
-
-  reached-byte : (s' : Replay) (at' : ℕ) (out' : List ℕ) → s' ≡ fedByte s byte → at' ≡ at + length (wroteByte s byte) → out' ≡ sets out at (wroteByte s byte)
-      → Reached r p before (i + 1) s' at' out'
-  reached-byte s' at' out' e f g =
-      let m = writes-more r p i k in
-      let y : at ≡ 0 + length (writes r (take i p)) = omega (arith, h .place) in
-      let x : wroteByte s byte ≡ wroteByte (fed r (take i p)) byte = ap (λ (q : Replay). wroteByte q byte) (h .state) in record {
-        state = e ∙ ap (λ (q : Replay). fedByte q byte) (h .state) ∙ sym (fed-more r p i k);
-        place =
-            f ∙ ap (λ (n : ℕ). n + length (wroteByte s byte)) (h .place)
-            ∙ ap (λ (w : List ℕ). length (writes r (take i p)) + length w) x
-            ∙ sym (ap length m ∙ length-append (writes r (take i p)) (wroteByte (fed r (take i p)) byte));
-        bytes =
-            g ∙ ap (λ (l : List ℕ). sets l at (wroteByte s byte)) (h .bytes) ∙ ap (sets (sets before 0 (writes r (take i p))) at) x
-            ∙ ap (λ (n : ℕ). sets (sets before 0 (writes r (take i p))) n (wroteByte (fed r (take i p)) byte)) y
-            ∙ sym (sets-append before 0 (writes r (take i p)) (wroteByte (fed r (take i p)) byte))
-            ∙ ap (sets before 0) (sym m);
+  piece-on : (x : Piece) → nextCut r b ≡ Held → PieceFed (record { progress = r .progress; cutter = one }) x → PieceFed r (record { cut = x .cut; bytes = b ∷ x .bytes })
+  unfolding fed writes afterCut wroteCut
+  piece-on x e f =
+      let more : holding one (x .bytes) ≡ holding (r .cutter) (b ∷ x .bytes) = holding-on (r .cutter) (b ∷ []) (x .bytes) in
+      record {
+        state =
+            ap (λ (t : Cut). fed (afterCut t (r .progress) one) (x .bytes)) e
+            ∙ f .state
+            ∙ ap (afterCut (x .cut) (r .progress)) more;
+        wrote =
+            ap (λ (t : Cut). wroteCut t (r .progress) one ++ writes (afterCut t (r .progress) one) (x .bytes)) e
+            ∙ f .wrote
+            ∙ ap (wroteCut (x .cut) (r .progress)) more;
       }
 
--- ---- what holds of a portion at its byte i: at first, one byte further, and at its end
+piece-fed : (r : Replay) (s : List ℕ) → r .cutter .count < lineLimit → length (r .cutter .held) ≡ heldRoom → PieceFed r (pieceOf CrLf lineLimit (heldLine (r .cutter)) s)
+unfolding pieceOf fed writes afterCut wroteCut
+piece-fed r [] short room = record { state = rw (add-zero (r .cutter .count)); wrote = refl }
+piece-fed r (b ∷ s) short room =
+    let line = heldLine (r .cutter) ++ (b ∷ []) in
+    let fits : r .cutter .count + 1 ≤ length (r .cutter .held) = omega (arith, short, room) in
+    let same : heldLine (one r b) ≡ line = held-with (r .cutter) (b ∷ []) fits in
+    by-cut CrLf lineLimit line (λ (k : Cut). cutOf CrLf lineLimit line ≡ k → PieceFed r (pieceBy k b (pieceOf CrLf lineLimit line s)))
+    (λ c e. piece-last r b Closed e)
+    (λ c l e. piece-last r b TooLong e)
+    (λ c l e.
+    let n = next-length CrLf lineLimit (r .cutter .count) b (r .cutter .held) (omega (arith, short, room)) in
+    let more = piece-fed (record { progress = r .progress; cutter = one r b }) s (omega (arith, short, l, n)) (simp length-set room) in
+    piece-on r b (pieceOf CrLf lineLimit line s) e (rw same at more))
+    refl
+
+-- ---- what holds of a portion at its place i: the state s and the rest of the portion give what the whole gives
 
 pub record FeedTurn (r : Replay) (p before : List ℕ) (i : ℕ) (s : Replay) (at : ℕ) (out : List ℕ) : Type 0 where
   pub within : i ≤ length p
   pub long : length out ≡ length before
-  pub room : length (s .held) ≡ lineLimit
-  pub short : s .count < lineLimit
-  pub little : at + s .count ≤ r .count + i
-  pub reached : Reached r p before i s at out
+  pub room : length (s .cutter .held) ≡ heldRoom
+  pub short : s .cutter .count < lineLimit
+  pub little : at + s .cutter .count ≤ r .cutter .count + i
+  pub state : fed r p ≡ fed s (drop i p)
+  pub place : length (writes r p) ≡ at + length (writes s (drop i p))
+  pub bytes : sets before 0 (writes r p) ≡ sets out at (writes s (drop i p))
 
-pub turn-first : (r : Replay) (p out : List ℕ) → length (r .held) ≡ lineLimit → r .count < lineLimit → FeedTurn r p out 0 r 0 out
-turn-first r p out room short =
-    record { within = omega arith; long = refl; room = room; short = short; little = omega arith; reached = reached-none r p out }
+pub turn-first : (r : Replay) (p out : List ℕ) → length (r .cutter .held) ≡ heldRoom → r .cutter .count < lineLimit → FeedTurn r p out 0 r 0 out
+turn-first r p out room short = record {
+  within = omega arith;
+  long = refl;
+  room = room;
+  short = short;
+  little = omega arith;
+  state = refl;
+  place = omega arith;
+  bytes = refl;
+}
 
-module _ (r : Replay) (p before : List ℕ) (i : ℕ) (s : Replay) (at : ℕ) (out : List ℕ) (turn : FeedTurn r p before i s at out) (k : i < length p)
-    (held : List ℕ) (cut : Cut) (c : ByteCut CrLf lineLimit (s .count) (getD p i 0) (s .held) held cut) where
-  abbrev line : List ℕ
-  line = take (s .count + 1) held
+-- a piece further
+module _ (r : Replay) (p before : List ℕ) (i : ℕ) (s : Replay) (at : ℕ) (out : List ℕ) (turn : FeedTurn r p before i s at out) (more : i < length p)
+    (k : PieceCut) (answer : k ≡ pieceAnswer CrLf lineLimit (s .cutter) p i) where
+  abbrev piece : Piece
+  piece = pieceOf CrLf lineLimit (heldLine (s .cutter)) (drop i p)
 
-  room-after : length held ≡ lineLimit
-  room-after = same-room lineLimit (s .count) (getD p i 0) (s .held) held cut c (turn .room)
+  cut-off : k ≡ cutFrom (s .cutter) i piece
+  cut-off = answer ∙ answer-short CrLf lineLimit (s .cutter) p i (turn .short)
 
-  same-line : line ≡ nextLine s (getD p i 0)
-  same-line = ap (take (s .count + 1)) (c .held) ∙ next-held s (getD p i 0) (omega (arith, turn .short)) (turn .room)
+  held-length : length (heldLine (s .cutter)) ≡ s .cutter .count
+  held-length = rw length-take (omega (arith, turn .short, turn .room))
 
-  -- a line that is still held is not too long
-  held-short : cut ≡ Held → s .count + 1 < lineLimit
-  held-short told =
-      let n = next-length CrLf lineLimit (s .count) (getD p i 0) (s .held) (omega (arith, turn .short, turn .room)) in
-      let f = held-not-full CrLf lineLimit (nextLine s (getD p i 0)) (sym (c .cut) ∙ told) in
-      omega (arith, f, n, turn .short)
+  cut-piece : IsPiece lineLimit (heldLine (s .cutter)) (drop i p) piece
+  cut-piece = is-piece CrLf lineLimit (heldLine (s .cutter)) (drop i p) (omega (arith, held-length, turn .short))
 
-  pub turn-held : cut ≡ Held → FeedTurn r p before (i + 1) (record { progress = s .progress; held = held; count = s .count + 1 }) at out
-  unfolding fedByteBy wroteByteBy
+  next-is : k .next ≡ i + length (piece .bytes)
+  next-is = ap (λ (x : PieceCut). x .next) cut-off
+
+  count-is : k .cutter .count ≡ s .cutter .count + length (piece .bytes)
+  count-is = ap (λ (x : PieceCut). x .cutter .count) cut-off
+
+  pub farther : i < k .next
+  farther =
+      let some : 0 < length (drop i p) = rw length-drop (omega (arith, more)) in
+      omega (arith, next-is, cut-piece .some some)
+
+  pub next-within : k .next ≤ length p
+  next-within =
+      let front = rw (length-take, length-drop) at (ap length (cut-piece .front)) in
+      omega (arith, next-is, front, more)
+
+  pub next-room : length (k .cutter .held) ≡ heldRoom
+  next-room = ap (λ (x : PieceCut). length (x .cutter .held)) cut-off ∙ length-sets (s .cutter .held) (s .cutter .count) (piece .bytes) ∙ turn .room
+
+  pub next-fits : k .cutter .count ≤ lineLimit
+  next-fits = omega (arith, count-is, held-length, cut-piece .within)
+
+  pub next-little : at + k .cutter .count ≤ r .cutter .count + k .next
+  next-little = omega (arith, count-is, next-is, turn .little)
+
+  rest-is : drop i p ≡ piece .bytes ++ drop (k .next) p
+  rest-is =
+      sym (take-append-drop (length (piece .bytes)) (drop i p))
+      ∙ rw (cut-piece .front, next-is, drop-drop (length (piece .bytes)) i p)
+
+  fed-piece : PieceFed s piece
+  fed-piece = piece-fed s (drop i p) (turn .short) (turn .room)
+
+  abbrev wrote : List ℕ
+  wrote = wroteCut (k .cut) (s .progress) (k .cutter)
+
+  state-on : fed s (drop i p) ≡ fed (afterCut (k .cut) (s .progress) (k .cutter)) (drop (k .next) p)
+  state-on =
+      ap (fed s) rest-is
+      ∙ fed-append s (piece .bytes) (drop (k .next) p)
+      ∙ ap (λ (q : Replay). fed q (drop (k .next) p)) (fed-piece .state ∙ ap (λ (x : PieceCut). afterCut (x .cut) (s .progress) (x .cutter)) (sym cut-off))
+
+  writes-on : writes s (drop i p) ≡ wrote ++ writes (afterCut (k .cut) (s .progress) (k .cutter)) (drop (k .next) p)
+  writes-on =
+      ap (writes s) rest-is
+      ∙ writes-append s (piece .bytes) (drop (k .next) p)
+      ∙ ap (λ (w : List ℕ). w ++ writes (fed s (piece .bytes)) (drop (k .next) p)) (fed-piece .wrote ∙ ap (λ (x : PieceCut). wroteCut (x .cut) (s .progress) (x .cutter)) (sym cut-off))
+      ∙ ap (λ (q : Replay). wrote ++ writes q (drop (k .next) p)) (fed-piece .state ∙ ap (λ (x : PieceCut). afterCut (x .cut) (s .progress) (x .cutter)) (sym cut-off))
+
+  turn-on : (q : Replay) (at' : ℕ) (out' : List ℕ) → afterCut (k .cut) (s .progress) (k .cutter) ≡ q → at' ≡ at + length wrote → out' ≡ sets out at wrote
+      → length (q .cutter .held) ≡ heldRoom → q .cutter .count < lineLimit → at' + q .cutter .count ≤ r .cutter .count + k .next → FeedTurn r p before (k .next) q at' out'
+  turn-on q at' out' e f g room short little =
+      let ws = writes q (drop (k .next) p) in
+      let on : writes s (drop i p) ≡ wrote ++ ws = writes-on ∙ ap (λ (x : Replay). wrote ++ writes x (drop (k .next) p)) e in
+      let size : length (writes s (drop i p)) ≡ length wrote + length ws = ap length on ∙ length-append wrote ws in
+      record {
+        within = next-within;
+        long = rw (g, length-sets) (turn .long);
+        room = room;
+        short = short;
+        little = little;
+        state = turn .state ∙ state-on ∙ ap (λ (x : Replay). fed x (drop (k .next) p)) e;
+        place = omega (arith, turn .place, size, f);
+        bytes = turn .bytes ∙ ap (sets out at) on ∙ sets-append out at wrote ws ∙ rw (g, f);
+      }
+
+  pub turn-held : k .cut ≡ Held → FeedTurn r p before (k .next) (record { progress = s .progress; cutter = k .cutter }) at out
+  unfolding afterCut wroteCut
   turn-held told =
-      let e : Held ≡ nextCut s (getD p i 0) = sym told ∙ c .cut in
       let z : at ≡ at + 0 = omega arith in
-      record {
-        within = omega arith;
-        long = turn .long;
-        room = room-after;
-        short = held-short told;
-        little = omega (arith, turn .little);
-        reached = reached-byte r p before i s at out k (turn .reached) (record { progress = s .progress; held = held; count = s .count + 1 }) at out (rw (← e, c .held)) (rw (← e) z) (rw (← e));
-      }
+      let held : piece .cut ≡ Held = sym (ap (λ (x : PieceCut). x .cut) cut-off) ∙ told in
+      turn-on (record { progress = s .progress; cutter = k .cutter }) at out (rw told) (rw told z) (rw told) next-room (omega (arith, count-is, held-length, cut-piece .short held)) next-little
 
-  pub turn-closed : cut ≡ Closed → (t : Noted) (out' : List ℕ) → LineNoted (length line) out out' at (afterLine (s .progress) line) (wroteLine (s .progress) line) t
-      → FeedTurn r p before (i + 1) (record { progress = t .progress; held = held; count = 0 }) (t .written) out'
-  unfolding fedByteBy wroteByteBy
+  pub turn-closed : k .cut ≡ Closed → (t : Noted) (out' : List ℕ) → LineNoted (k .cutter .count) out out' at (afterLine (s .progress) (heldLine (k .cutter))) (wroteLine (s .progress) (heldLine (k .cutter))) t
+      → FeedTurn r p before (k .next) (record { progress = t .progress; cutter = emptied (k .cutter) }) (t .written) out'
+  unfolding afterCut wroteCut
   turn-closed told t out' n =
-      let e : Closed ≡ nextCut s (getD p i 0) = sym told ∙ c .cut in
-      let l : length line ≤ s .count + 1 = simp length-take (omega arith) in
-      record {
-        within = omega arith;
-        long = rw (n .output, length-sets) (turn .long);
-        room = room-after;
-        short = omega arith;
-        little = omega (arith, n .short, l, turn .little);
-        reached = reached-byte r p before i s at out k (turn .reached) (record { progress = t .progress; held = held; count = 0 }) (t .written) out'
-            (rw (← e, n .noted, same-line, c .held)) (rw (← e, n .noted, same-line)) (rw (← e, ← same-line) (n .output));
-      }
+      turn-on (record { progress = t .progress; cutter = emptied (k .cutter) }) (t .written) out' (rw (told, n .noted)) (rw (told, n .noted)) (rw told (n .output)) next-room (omega arith) (omega (arith, n .short, next-little))
 
-  pub turn-filled : cut ≡ TooLong → (x : Progress) → x ≡ refuse (s .progress) → FeedTurn r p before (i + 1) (record { progress = x; held = held; count = 0 }) at out
-  unfolding fedByteBy wroteByteBy
-  turn-filled told x g =
-      let e : TooLong ≡ nextCut s (getD p i 0) = sym told ∙ c .cut in
+  pub turn-long : k .cut ≡ TooLong → (x : Progress) → x ≡ refuse (s .progress) → FeedTurn r p before (k .next) (record { progress = x; cutter = emptied (k .cutter) }) at out
+  unfolding afterCut wroteCut
+  turn-long told x e =
       let z : at ≡ at + 0 = omega arith in
-      record {
-        within = omega arith;
-        long = turn .long;
-        room = room-after;
-        short = omega arith;
-        little = omega (arith, turn .little);
-        reached = reached-byte r p before i s at out k (turn .reached) (record { progress = x; held = held; count = 0 }) at out (rw (← e, g, c .held)) (rw (← e) z) (rw (← e));
-      }
+      turn-on (record { progress = x; cutter = emptied (k .cutter) }) at out (rw (told, e)) (rw told z) (rw told) next-room (omega arith) (omega (arith, next-little))
 
 pub turn-last : (r : Replay) (p before : List ℕ) (i : ℕ) (s : Replay) (at : ℕ) (out : List ℕ) (x : Fed) → FeedTurn r p before i s at out → length p ≤ i
     → x ≡ record { taken = true; state = s; written = at } → PortionFed r p before out x
+unfolding fed writes
 turn-last r p before i s at out x turn l e =
-    let z : take i p ≡ p = take-all i p l in
-    let h = turn .reached in
+    let none : drop i p ≡ [] = drop-of-length-le p l in
+    let state : fed r p ≡ s = turn .state ∙ rw none in
+    let place : length (writes r p) ≡ at = turn .place ∙ rw (none, add-zero at) in
+    let bytes : sets before 0 (writes r p) ≡ out = turn .bytes ∙ rw none in
     record {
-      answer = e ∙ rw (h .state, h .place, z);
-      output = rw z at (h .bytes);
+      answer = e ∙ rw (state, place);
+      output = sym bytes;
       within = rw e (omega (arith, turn .little, turn .within));
     }

@@ -3,12 +3,10 @@
 use mathlib.Core.Path.{_≡_, refl, sym, ap, _∙_}
 use mathlib.Core.Bool.{Bool, true, false, cond}
 use mathlib.Core.List.{List, [], _∷_, _++_, append-assoc}
-use Prim.Native.Nat.{ℕ, _+_, _≤_, _<_}
-use native.Mathlib.Numerals.{add-one}
+use Prim.Native.Nat.{ℕ, _+_, _<_}
 use native.Mathlib.Omega.{arith}
 use lib.Dec.{eqb}
-use lib.ListN.{length, take, set, length-set, length-take}
-use lib.Seq.{take-suc-set}
+use lib.ListN.{length, length-set, length-take}
 use borrow.Author.Tests.{eqb-true, eqb-false}
 use Rattle.files.specs.declared.progress.Stage.{Stage}
 use Rattle.files.specs.declared.progress.Stage.the-variants.{Stopped}
@@ -17,36 +15,42 @@ use Rattle.files.specs.declared.replay.Replay.{Replay}
 use Rattle.text.specs.Line.{endsCrLf}
 use Rattle.text.specs.declared.lines.Closer.the-variants.{CrLf}
 use Rattle.text.specs.declared.lines.Cut.{Cut}
+use Rattle.text.specs.declared.cutter.Cutter.{Cutter}
 use Rattle.text.specs.Lines.{linesFrom, joined}
+use Rattle.text.specs.Cutter.{heldRoom, heldLine, holding}
 use Rattle.files.specs.Progress.{endOf, refuseBy}
-use Rattle.files.specs.Replay.{byLines, replayOf, lineLimit, heldLine, freshReplay, nextLine, fedByteBy, wroteByteBy, fedByte, wroteByte, fed, writes, lastIf, endsWith}
+use Rattle.files.specs.Replay.{byLines, replayOf, lineLimit, freshReplay, afterCut, wroteCut, fedByte, wroteByte, fed, writes, lastIf, endsWith}
 use Rattle.files.specs.device.Calls.{Sound}
 use Rattle.text.proofs.ShapeLaws.{ends-nothing}
 use Rattle.text.proofs.CutLaws.{by-cut, next-length, lines-cons, lines-nil, last-nothing, joined-none, joined-more}
+use Rattle.text.proofs.PieceLaws.{held-with}
 use Rattle.files.proofs.RefusedLaws.{by-cons, by-nil, stopped-ends, refused-ends, open-ends, long-ends}
 
--- ---- one byte, in a state that holds less than a line too long
-
-module _ (r : Replay) (b : ℕ) (short : r .count + 1 ≤ lineLimit) (room : length (r .held) ≡ lineLimit) where
-  pub next-held : take (r .count + 1) (set (r .held) (r .count) b) ≡ nextLine r b
-  next-held = rw add-one (take-suc-set (r .held) (r .count) b (omega arith))
-
--- ---- it stays sound
+-- ---- one byte, in a sound state, which stays sound
 
 module _ (r : Replay) (b : ℕ) (h : Sound r) where
-  longer : length (nextLine r b) ≡ r .count + 1
-  longer = next-length CrLf lineLimit (r .count) b (r .held) (omega (arith, h .short, h .room))
+  abbrev next : Cutter
+  next = holding (r .cutter) (b ∷ [])
 
-  held-room : length (set (r .held) (r .count) b) ≡ lineLimit
+  abbrev line : List ℕ
+  line = heldLine (r .cutter) ++ (b ∷ [])
+
+  next-line : heldLine next ≡ line
+  next-line = held-with (r .cutter) (b ∷ []) (omega (arith, h .short, h .room))
+
+  longer : length line ≡ r .cutter .count + 1
+  longer = next-length CrLf lineLimit (r .cutter .count) b (r .cutter .held) (omega (arith, h .short, h .room))
+
+  held-room : length (next .held) ≡ heldRoom
   held-room = simp length-set (h .room)
 
   byte-sound : Sound (fedByte r b)
-  unfolding fedByteBy
+  unfolding afterCut
   byte-sound =
-      by-cut CrLf lineLimit (nextLine r b) (λ (k : Cut). Sound (fedByteBy k r b))
+      by-cut CrLf lineLimit line (λ (k : Cut). Sound (afterCut k (r .progress) next))
       (λ e. record { short = omega arith; room = held-room; unclosed = ends-nothing })
       (λ e f. record { short = omega arith; room = held-room; unclosed = ends-nothing })
-      (λ e f. record { short = omega (arith, h .short, f, longer); room = held-room; unclosed = rw (next-held r b (h .short) (h .room)) e })
+      (λ e f. record { short = omega (arith, h .short, f, longer); room = held-room; unclosed = rw next-line e })
 
 pub fed-sound : (r : Replay) (s : List ℕ) → Sound r → Sound (fed r s)
 unfolding fed
@@ -59,18 +63,19 @@ fresh-sound = record { short = omega arith; room = refl; unclosed = ends-nothing
 -- ---- what is still to be written: the replay, line by line, of the line held and the rest of the input
 
 unfoldable left : Replay → List ℕ → List ℕ
-left r s = byLines (r .progress) (linesFrom CrLf (heldLine r) s)
+left r s = byLines (r .progress) (linesFrom CrLf (heldLine (r .cutter)) s)
 
 module _ (r : Replay) (b : ℕ) (s : List ℕ) (h : Sound r) where
   left-byte : left r (b ∷ s) ≡ wroteByte r b ++ left (fedByte r b) s
-  unfolding left fedByteBy wroteByteBy
+  unfolding left afterCut wroteCut
   left-byte =
-      rw (lines-cons CrLf (heldLine r) s b)
-      (by-cut CrLf lineLimit (nextLine r b)
-      (λ (k : Cut). byLines (r .progress) (cond (endsCrLf (nextLine r b)) (nextLine r b ∷ linesFrom CrLf [] s) (linesFrom CrLf (nextLine r b) s)) ≡ wroteByteBy k r b ++ left (fedByteBy k r b) s)
-      (λ e. rw e (by-cons (r .progress) (nextLine r b) (linesFrom CrLf [] s)))
-      (λ e f. rw e (long-ends (r .progress) (nextLine r b) s (omega arith) ∙ sym (refused-ends (r .progress) (linesFrom CrLf [] s))))
-      (λ e f. rw (e, next-held r b (h .short) (h .room))))
+      let same = next-line r b h in
+      rw (lines-cons CrLf (heldLine (r .cutter)) s b)
+      (by-cut CrLf lineLimit (line r b h)
+      (λ (k : Cut). byLines (r .progress) (cond (endsCrLf (line r b h)) (line r b h ∷ linesFrom CrLf [] s) (linesFrom CrLf (line r b h) s)) ≡ wroteCut k (r .progress) (next r b h) ++ left (afterCut k (r .progress) (next r b h)) s)
+      (λ e. rw (e, same) (by-cons (r .progress) (line r b h) (linesFrom CrLf [] s)))
+      (λ e f. rw e (long-ends (r .progress) (line r b h) s (omega arith) ∙ sym (refused-ends (r .progress) (linesFrom CrLf [] s))))
+      (λ e f. rw (e, same)))
 
 -- a portion
 left-fed : (r : Replay) (s t : List ℕ) → Sound r → left r (s ++ t) ≡ writes r s ++ left (fed r s) t
@@ -82,19 +87,19 @@ left-fed r (b ∷ s) t h =
     ∙ sym (append-assoc (wroteByte r b) (writes (fedByte r b) s) (left (fed (fedByte r b) s) t))
 
 -- the end of the input
-held-nothing : (r : Replay) → r .count ≡ 0 → heldLine r ≡ []
+held-nothing : (r : Replay) → r .cutter .count ≡ 0 → heldLine (r .cutter) ≡ []
 held-nothing r e = rw e
 
 module _ (r : Replay) (h : Sound r) where
-  end-if : (t : Bool) → eqb (r .count) 0 ≡ t → left r [] ≡ endOf (lastIf t (r .progress))
+  end-if : (t : Bool) → eqb (r .cutter .count) 0 ≡ t → left r [] ≡ endOf (lastIf t (r .progress))
   unfolding left lastIf
-  end-if true e = rw (held-nothing r (eqb-true (r .count) 0 e), lines-nil CrLf [], last-nothing) (by-nil (r .progress))
+  end-if true e = rw (held-nothing r (eqb-true (r .cutter .count) 0 e), lines-nil CrLf [], last-nothing) (by-nil (r .progress))
   end-if false e =
-      let k : 0 < length (heldLine r) = rw length-take (omega (arith, h .short, h .room, eqb-false (r .count) 0 e)) in
-      open-ends (r .progress) (heldLine r) k (h .unclosed)
+      let k : 0 < length (heldLine (r .cutter)) = rw length-take (omega (arith, h .short, h .room, eqb-false (r .cutter .count) 0 e)) in
+      open-ends (r .progress) (heldLine (r .cutter)) k (h .unclosed)
 
   left-end : left r [] ≡ endsWith r
-  left-end = end-if (eqb (r .count) 0) refl
+  left-end = end-if (eqb (r .cutter .count) 0) refl
 
 -- ---- portions, one after the other, and then the end
 
@@ -127,4 +132,4 @@ module _ (r : Replay) (n : ℕ) (e : r .progress .stage ≡ Stopped n) where
   pub stop-early : (ps : List (List ℕ)) → Sound r → feedAll r ps ≡ endsWith r
   unfolding left
   stop-early ps h =
-      portions-left r ps h ∙ stopped-ends (r .progress) n (linesFrom CrLf (heldLine r) (joined ps)) e ∙ sym (stopped-if (eqb (r .count) 0))
+      portions-left r ps h ∙ stopped-ends (r .progress) n (linesFrom CrLf (heldLine (r .cutter)) (joined ps)) e ∙ sym (stopped-if (eqb (r .cutter .count) 0))

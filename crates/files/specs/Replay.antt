@@ -5,11 +5,13 @@ use mathlib.Core.Bool.{Bool, true, false, _&&_}
 use mathlib.Core.List.{List, [], _∷_, _++_}
 use Prim.Native.Nat.{ℕ, _+_}
 use lib.Dec.{eqb, leb, ltb}
-use lib.ListN.{length, take, set, replicate}
+use lib.ListN.{length}
 use Rattle.text.specs.declared.lines.Closer.the-variants.{CrLf}
 use Rattle.text.specs.declared.lines.Cut.{Cut}
 use Rattle.text.specs.declared.lines.Cut.the-variants.{Held, Closed, TooLong}
+use Rattle.text.specs.declared.cutter.Cutter.{Cutter}
 use Rattle.text.specs.Lines.{linesOf, cutOf}
+use Rattle.text.specs.Cutter.{emptyCutter, heldLine, holding, emptied}
 use Rattle.files.specs.declared.progress.Stage.{Stage}
 use Rattle.files.specs.declared.progress.Stage.the-variants.{Opening, Running, Stopped}
 use Rattle.files.specs.declared.progress.Progress.{Progress}
@@ -28,7 +30,7 @@ byLines p (l ∷ ls) = wroteLine p l ++ byLines (afterLine p l) ls
 unfoldable pub replayOf : List ℕ → List ℕ
 replayOf s = byLines freshProgress (linesOf CrLf s)
 
--- ---- a state: the progress, and the bytes of the line that has begun
+-- ---- a state: the progress, and the cutter that holds the line that has begun
 
 -- "Longest row: 45 bytes"; a settings line is shorter
 abbrev pub longestLine : ℕ
@@ -38,38 +40,30 @@ longestLine = 45
 abbrev pub lineLimit : ℕ
 lineLimit = longestLine + 1
 
-abbrev pub heldLine : Replay → List ℕ
-heldLine r = take (r .count) (r .held)
-
 abbrev pub freshReplay : Replay
-freshReplay = record { progress = freshProgress; held = replicate lineLimit 0; count = 0 }
+freshReplay = record { progress = freshProgress; cutter = emptyCutter }
 
 -- ---- one byte more: it closes the line, or makes it too long, or is held
 
-abbrev pub nextLine : Replay → ℕ → List ℕ
-nextLine r b = heldLine r ++ (b ∷ [])
-
 abbrev pub nextCut : Replay → ℕ → Cut
-nextCut r b = cutOf CrLf lineLimit (nextLine r b)
+nextCut r b = cutOf CrLf lineLimit (heldLine (r .cutter) ++ (b ∷ []))
 
-abbrev pub withByte : Replay → ℕ → Progress → ℕ → Replay
-withByte r b p count = record { progress = p; held = set (r .held) (r .count) b; count = count }
+-- by what the byte did, and the cutter that holds it
+unfoldable pub afterCut : Cut → Progress → Cutter → Replay
+afterCut Closed p c = record { progress = afterLine p (heldLine c); cutter = emptied c }
+afterCut TooLong p c = record { progress = refuse p; cutter = emptied c }
+afterCut Held p c = record { progress = p; cutter = c }
 
-unfoldable pub fedByteBy : Cut → Replay → ℕ → Replay
-fedByteBy Closed r b = withByte r b (afterLine (r .progress) (nextLine r b)) 0
-fedByteBy TooLong r b = withByte r b (refuse (r .progress)) 0
-fedByteBy Held r b = withByte r b (r .progress) (r .count + 1)
+unfoldable pub wroteCut : Cut → Progress → Cutter → List ℕ
+wroteCut Closed p c = wroteLine p (heldLine c)
+wroteCut TooLong p c = []
+wroteCut Held p c = []
 
 abbrev pub fedByte : Replay → ℕ → Replay
-fedByte r b = fedByteBy (nextCut r b) r b
-
-unfoldable pub wroteByteBy : Cut → Replay → ℕ → List ℕ
-wroteByteBy Closed r b = wroteLine (r .progress) (nextLine r b)
-wroteByteBy TooLong r b = []
-wroteByteBy Held r b = []
+fedByte r b = afterCut (nextCut r b) (r .progress) (holding (r .cutter) (b ∷ []))
 
 abbrev pub wroteByte : Replay → ℕ → List ℕ
-wroteByte r b = wroteByteBy (nextCut r b) r b
+wroteByte r b = wroteCut (nextCut r b) (r .progress) (holding (r .cutter) (b ∷ []))
 
 -- ---- a portion: the state after it, and what it writes
 
@@ -98,14 +92,14 @@ fedIf true r s = fedBy r s
 fedIf false r s = record { taken = false; state = r; written = 0 }
 
 abbrev pub feedAnswer : Replay → List ℕ → ℕ → Fed
-feedAnswer r s room = fedIf (takes (r .count) (length s) room) r s
+feedAnswer r s room = fedIf (takes (r .cutter .count) (length s) room) r s
 
 unfoldable pub writesIf : Bool → Replay → List ℕ → List ℕ
 writesIf true r s = writes r s
 writesIf false r s = []
 
 abbrev pub feedWrites : Replay → List ℕ → ℕ → List ℕ
-feedWrites r s room = writesIf (takes (r .count) (length s) room) r s
+feedWrites r s room = writesIf (takes (r .cutter .count) (length s) room) r s
 
 -- ---- the end of the input
 
@@ -115,7 +109,7 @@ lastIf true p = p
 lastIf false p = refuse p
 
 abbrev pub lastProgress : Replay → Progress
-lastProgress r = lastIf (eqb (r .count) 0) (r .progress)
+lastProgress r = lastIf (eqb (r .cutter .count) 0) (r .progress)
 
 abbrev pub endsWith : Replay → List ℕ
 endsWith r = endOf (lastProgress r)

@@ -1,21 +1,24 @@
 // The replay fed by portions of its input.
 ghost use mathlib.Core.Path.{_≡_};
-ghost use Prim.Native.Nat.{_+_, _≤_, _<_};
-ghost use lib.ListN.{length};
+ghost use mathlib.Core.List.{List};
+ghost use Prim.Native.Nat.{ℕ, _+_, _≤_, _<_};
+ghost use lib.ListN.{length, take};
 ghost use lib.Seq.{sets};
 ghost use Rattle.files.specs.Replay.{lineLimit, freshReplay, portionRoom, takes, feedAnswer, feedWrites};
 ghost use Rattle.files.specs.Replay.{lastProgress, refusalAtEnd, finishWrites, isStopped};
-ghost use Rattle.files.specs.device.Calls.{takenWith, PortionFed};
+ghost use Rattle.files.specs.Progress.{afterLine, wroteLine};
+ghost use Rattle.files.specs.device.Calls.{LineNoted, takenWith, PortionFed};
 use crate::output::END_ROOM;
+use crate::progress::Noted;
 use crate::progress::Progress;
 use crate::progress::Stage;
 use crate::progress::end_refusal;
 use crate::progress::on_end;
 use crate::progress::on_line;
 use crate::progress::refuse_shape;
+use text::cutter::Cutter;
 use text::lines::Closer;
 use text::lines::Cut;
-use text::lines::cut_byte;
 
 // A row has at most so many bytes, and a settings line fewer.
 pub const LONGEST_LINE: usize = 45;
@@ -23,11 +26,10 @@ pub const LONGEST_LINE: usize = 45;
 // A line of one byte more is too long.
 pub const LINE_LIMIT: usize = LONGEST_LINE + 1;
 
-// The progress of the replay, and the bytes of the line that has begun: the first `count` of `held`.
+// The progress of the replay, and the cutter that holds the line that has begun.
 pub struct Replay {
     pub progress: Progress,
-    pub held: [u8; LINE_LIMIT],
-    pub count: usize,
+    pub cutter: Cutter,
 }
 
 // Whether the portion was taken, the state after it, and how many bytes it wrote.
@@ -42,22 +44,15 @@ impl Replay {
         ensures { λ r. ⌜ r ≡ freshReplay ⌝ }
     {
         let progress = Progress::fresh();
-        Replay {
-            progress,
-            held: [0u8; LINE_LIMIT],
-            count: 0,
-        }
+        let cutter = Cutter::empty();
+        Replay { progress, cutter }
     }
 }
 
-fn taken(progress: Progress, held: [u8; LINE_LIMIT], count: usize, written: usize) -> Fed
-    ensures { λ r. ⌜ r ≡ takenWith progress held count written ⌝ }
+fn taken(progress: Progress, cutter: Cutter, written: usize) -> Fed
+    ensures { λ r. ⌜ r ≡ takenWith progress cutter written ⌝ }
 {
-    let state = Replay {
-        progress,
-        held,
-        count,
-    };
+    let state = Replay { progress, cutter };
     Fed {
         taken: true,
         state,
@@ -65,42 +60,52 @@ fn taken(progress: Progress, held: [u8; LINE_LIMIT], count: usize, written: usiz
     }
 }
 
-// The bytes of a portion. Most of them are only held: a line's end alone touches the progress.
+// The line of the first n bytes held. (A part of an array that is a field can't be lent: the part is made here.)
+fn on_held(p: Progress, held: &[u8], n: usize, out: &mut [u8], at: usize) -> Noted
+    requires { ⌜ (n ≤ length (now held)) × (at + n ≤ length (now out)) ⌝ }
+    ensures { λ r.
+        let l : List ℕ = take n (now (held .entry)) in
+        ⌜ LineNoted n (now (out .entry)) (now (out .exit)) at (afterLine p l) (wroteLine p l) r ⌝ }
+{
+    on_line(p, &held[..n], out, at)
+}
+
+// The bytes of a portion, piece by piece.
 fn feed_bytes(state: Replay, portion: &[u8], out: &mut [u8]) -> Fed
-    requires { ⌜ (state .count < lineLimit) × (portionRoom (state .count) (length (now portion)) ≤ length (now out)) ⌝ }
+    requires { ⌜ (state .cutter .count < lineLimit) × (portionRoom (state .cutter .count) (length (now portion)) ≤ length (now out)) ⌝ }
     ensures { λ r. ⌜ PortionFed state (now (portion .entry)) (now (out .entry)) (now (out .exit)) r ⌝ }
 {
     let mut progress = state.progress;
-    let mut held = state.held;
-    let mut n = state.count;
+    let mut cutter = state.cutter;
     let mut i = 0;
     let mut at = 0;
     while i < portion.len() {
-        let b = portion[i];
-        i += 1;
-        let cut = cut_byte(&mut held, n, b, LINE_LIMIT, Closer::CrLf);
-        n += 1;
+        let piece = cutter.cut(portion, i, LINE_LIMIT, Closer::CrLf);
+        cutter = piece.cutter;
+        i = piece.next;
+        let cut = piece.cut;
         match cut {
             Cut::Held => {
                 continue;
             }
             Cut::Closed => {
-                let t = on_line(progress, &held[..n], out, at);
+                let n = cutter.count;
+                let t = on_held(progress, &cutter.held, n, out, at);
                 let after = t.progress;
                 progress = after;
                 at = t.written;
-                n = 0;
+                cutter.count = 0;
                 continue;
             }
             Cut::TooLong => {
                 let after = refuse_shape(progress);
                 progress = after;
-                n = 0;
+                cutter.count = 0;
                 continue;
             }
         }
     }
-    taken(progress, held, n, at)
+    taken(progress, cutter, at)
 }
 
 // The room that a portion's output needs at most.
@@ -132,7 +137,7 @@ pub fn feed(state: Replay, portion: &[u8], out: &mut [u8]) -> Fed
       ⌜ now (out .exit) ≡ sets (now (out .entry)) 0 (feedWrites state (now (portion .entry)) room) ⌝ }
     ensures within { λ r. ⌜ r .written ≤ length (now (out .exit)) ⌝ }
 {
-    let count = state.count;
+    let count = state.cutter.count;
     if takes_portion(count, portion, out.len()) {
         return feed_bytes(state, portion, out);
     }
@@ -147,7 +152,7 @@ pub fn feed(state: Replay, portion: &[u8], out: &mut [u8]) -> Fed
 fn last_progress(state: Replay) -> Progress
     ensures { λ r. ⌜ r ≡ lastProgress state ⌝ }
 {
-    let count = state.count;
+    let count = state.cutter.count;
     let progress = state.progress;
     if count == 0 {
         return progress;

@@ -17,12 +17,8 @@ fn without_settings() -> Replay {
         done: p.done,
         outputs: p.outputs,
     };
-    let held = fresh.held;
-    Replay {
-        progress,
-        held,
-        count: 0,
-    }
+    let cutter = fresh.cutter;
+    Replay { progress, cutter }
 }
 
 // The row's tick is refused, by the first setting out of range: the row is not done, and the replay stops.

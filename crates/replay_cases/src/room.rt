@@ -17,7 +17,7 @@ fn say_taken(taken: bool) {
 fn feed(name: &[u8], held: usize, out: &mut [u8]) {
     say(name);
     let mut state = Replay::fresh();
-    state.count = held;
+    state.cutter.count = held;
     let t = files::feed(state, b"1,200", out);
     say_taken(t.taken);
 }

@@ -9,3 +9,4 @@ pub mod LineLaws
 pub mod LinesLaws
 pub mod CutLaws
 pub mod CuttingLaws
+pub mod PieceLaws

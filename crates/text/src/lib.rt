@@ -1,5 +1,6 @@
 // Text and bytes: a library beneath the layers, which names nothing of relays.
 pub mod bytes;
+pub mod cutter;
 pub mod line;
 pub mod lines;
 pub mod number;

@@ -1,5 +1,4 @@
-// The lines of a stream, byte by byte. The bytes of the line that has begun stand at the front of a slice that the
-// client lends, with room for one byte more than its longest line: each has the room that it needs, and none is copied.
+// The lines of a stream, byte by byte.
 ghost use mathlib.Core.Path.{_≡_};
 ghost use mathlib.Core.List.{_++_, [], _∷_};
 ghost use Prim.Native.Nat.{_≤_, _<_};
@@ -48,7 +47,7 @@ fn closes(held: &[u8], n: usize, b: u8, closer: Closer) -> bool
 }
 
 // One byte more, after the n bytes held: the line that it closes or makes too long is the first n + 1 bytes of `held`.
-pub fn cut_byte(held: &mut [u8], n: usize, b: u8, limit: usize, closer: Closer) -> Cut
+pub(crate) fn cut_byte(held: &mut [u8], n: usize, b: u8, limit: usize, closer: Closer) -> Cut
     requires { ⌜ n < length (now held) ⌝ }
     ensures { λ r. ⌜ ByteCut closer limit n b (now (held .entry)) (now (held .exit)) r ⌝ }
 {

@@ -3,16 +3,18 @@
 use mathlib.Core.Path.{_≡_}
 use mathlib.Core.Bool.{true, false}
 use mathlib.Core.List.{List}
-use Prim.Native.Nat.{ℕ, _+_, _≤_}
+use Prim.Native.Nat.{ℕ, _+_, _≤_, _<_}
 use lib.ListN.{length}
 use lib.Seq.{sets}
 use Rattle.text.specs.Line.{endsCrLf}
+use Rattle.text.specs.declared.cutter.Cutter.{Cutter}
+use Rattle.text.specs.Cutter.{heldRoom, heldLine}
 use Rattle.text.specs.device.Calls.{Wrote}
 use Rattle.files.specs.declared.progress.Progress.{Progress}
 use Rattle.files.specs.declared.progress.Noted.{Noted}
 use Rattle.files.specs.declared.replay.Replay.{Replay}
 use Rattle.files.specs.declared.replay.Fed.{Fed}
-use Rattle.files.specs.Replay.{lineLimit, heldLine, writes, portionRoom, fedBy}
+use Rattle.files.specs.Replay.{lineLimit, writes, portionRoom, fedBy}
 
 -- the progress after a line, and the place after what it wrote
 abbrev pub notedOf : Progress → List ℕ → ℕ → Noted
@@ -31,18 +33,17 @@ pub record LineNoted (room : ℕ) (before after : List ℕ) (at : ℕ) (p : Prog
   pub short : answer .written ≤ at + room
 
 -- a portion that was taken
-abbrev pub takenWith : Progress → List ℕ → ℕ → ℕ → Fed
-takenWith p held count written =
-    record { taken = true; state = record { progress = p; held = held; count = count }; written = written }
+abbrev pub takenWith : Progress → Cutter → ℕ → Fed
+takenWith p c written = record { taken = true; state = record { progress = p; cutter = c }; written = written }
 
 -- a portion was fed, and what it wrote stands at the front
 pub record PortionFed (r : Replay) (portion before after : List ℕ) (x : Fed) : Type 0 where
   pub answer : x ≡ fedBy r portion
   pub output : after ≡ sets before 0 (writes r portion)
-  pub within : x .written ≤ portionRoom (r .count) (length portion)
+  pub within : x .written ≤ portionRoom (r .cutter .count) (length portion)
 
 -- the line held is shorter than a line too long, and is not closed
 pub record Sound (r : Replay) : Type 0 where
-  pub short : r .count + 1 ≤ lineLimit
-  pub room : length (r .held) ≡ lineLimit
-  pub unclosed : endsCrLf (heldLine r) ≡ false
+  pub short : r .cutter .count < lineLimit
+  pub room : length (r .cutter .held) ≡ heldRoom
+  pub unclosed : endsCrLf (heldLine (r .cutter)) ≡ false

@@ -8,6 +8,7 @@ use lib.Seq.{sets}
 use Rattle.text.specs.declared.number.Digits.{Digits}
 use Rattle.text.specs.declared.lines.Closer.{Closer}
 use Rattle.text.specs.declared.lines.Cut.{Cut}
+use Rattle.text.specs.declared.cutter.PieceCut.{PieceCut}
 use Rattle.text.specs.Number.{leading, digitsFrom}
 use Rattle.text.specs.Line.{narrow, fieldLimit}
 use Rattle.text.specs.Lines.{cutOf}
@@ -32,3 +33,7 @@ pub record Wrote (before after : List ℕ) (at place : ℕ) (bytes : List ℕ) :
 pub record ByteCut (closer : Closer) (limit n b : ℕ) (before after : List ℕ) (answer : Cut) : Type 0 where
   pub cut : answer ≡ cutOf closer limit (take n before ++ (b ∷ []))
   pub held : after ≡ set before n b
+
+-- a piece was cut
+abbrev pub pieceWith : Cut → List ℕ → ℕ → ℕ → PieceCut
+pieceWith cut held count next = record { cut = cut; cutter = record { held = held; count = count }; next = next }

@@ -1,92 +1,84 @@
--- `files::replay::feed_bytes` meets its contract: a turn of the loop is a byte of the portion.
+-- `files::replay::feed_bytes` meets its contract: a turn of the loop is a piece of the portion.
 -- Assumes nothing.
 use Prim.Native.Nat.{_-_}
 use native.Mathlib.Omega.{arith}
-use lib.ListN.{length, length-take}
+use lib.ListN.{length}
 use borrow.Author.Needs.{needs}
 use Rattle.files.specs.declared.replay.Replay.{Replay}
-use Rattle.files.proofs.FeedLaws.{FeedTurn, same-room, turn-first, turn-held, turn-closed, turn-filled, turn-last}
+use Rattle.files.proofs.FeedLaws.{FeedTurn, turn-first, farther, next-within, next-room, next-fits, next-little, turn-held, turn-closed, turn-long, turn-last}
 use Rattle.files.proofs.replay.feed_bytes.Statement.{statement}
 use Rattle.files.proofs.replay.feed_bytes.Tie as tie
 
 abbrev Inv-loop : tie.InvT-loop
-Inv-loop portion out₀ progress₀ held₀ n₀ i₀ at₀ out progress held n i at =
-    FeedTurn (record { progress = progress₀; held = held₀; count = n₀ }) portion out₀ i (record { progress = progress; held = held; count = n }) at out
+Inv-loop portion out₀ progress₀ cutter₀ i₀ at₀ out progress cutter i at =
+    FeedTurn (record { progress = progress₀; cutter = cutter₀ }) portion out₀ i (record { progress = progress; cutter = cutter }) at out
 
 abbrev μ-loop : tie.MeasureT-loop
-μ-loop portion out₀ progress₀ held₀ n₀ i₀ at₀ out progress held n i at = length portion - i
+μ-loop portion out₀ progress₀ cutter₀ i₀ at₀ out progress cutter i at = length portion - i
 
 loop-holds : tie.Need-loop-holds Inv-loop μ-loop
 loop-holds c =
     let a = c .before .before .before .before .args in
     turn-first (a .state) (a .portion .now) (a .out .now) (search needs) (omega arith)
 
-shared-slice-read-b : tie.Need-shared-slice-read-b Inv-loop μ-loop
-shared-slice-read-b c = search needs
-
-add-i : tie.Need-add-i Inv-loop μ-loop
-add-i c = search needs
-
-slice-aggregate-cut-byte : tie.Need-slice-aggregate-cut-byte Inv-loop μ-loop
-slice-aggregate-cut-byte c = search needs
-
-cut-byte-requires : tie.Need-cut-byte-requires Inv-loop μ-loop
-cut-byte-requires c κs = search needs
-
-add-n : tie.Need-add-n Inv-loop μ-loop
-add-n c = search needs
+cut-requires : tie.Need-cut-requires Inv-loop μ-loop
+cut-requires c κs = search needs
 
 enum-told : tie.Need-enum-told Inv-loop μ-loop
 enum-told c = search needs
 
 loop-less : tie.Need-loop-less Inv-loop μ-loop
-loop-less c = search needs
+loop-less c =
+    let a = c .before .before .before .before .before .before .before .before .before .before .args in
+    let l = c .before .before .before .before .before .loop in
+    let k = c .before .before .before .cut in
+    let s : Replay = record { progress = l .progress; cutter = l .cutter } in
+    let more = c .before .before .before .before .loop-test .taken in
+    omega (arith, more, farther (a .state) (a .portion .now) (a .out .now) (l .i) s (l .at) (l .out) (l .inv) more (k .result) (k .ensures))
 
 loop-again : tie.Need-loop-again Inv-loop μ-loop
 loop-again c =
-    let a = c .before .before .before .before .before .before .before .before .before .before .before .before .args in
-    let l = c .before .before .before .before .before .before .before .loop in
-    let k = c .before .before .before .cut-byte in
-    let s : Replay = record { progress = l .progress; held = l .held; count = l .n } in
-    turn-held (a .state) (a .portion .now) (a .out .now) (l .i) s (l .at) (l .out) (l .inv) (omega arith) (k .last .0) (k .result) (k .ensures) (c .enum-told .given .1)
+    let a = c .before .before .before .before .before .before .before .before .before .before .args in
+    let l = c .before .before .before .before .before .loop in
+    let k = c .before .before .before .cut in
+    let s : Replay = record { progress = l .progress; cutter = l .cutter } in
+    let more = c .before .before .before .before .loop-test .taken in
+    turn-held (a .state) (a .portion .now) (a .out .now) (l .i) s (l .at) (l .out) (l .inv) more (k .result) (k .ensures) (c .enum-told .given .1)
 
 enum-told-2 : tie.Need-enum-told-2 Inv-loop μ-loop
 enum-told-2 c = search needs
 
-array-share-prefix-held : tie.Need-array-share-prefix-held Inv-loop μ-loop
-array-share-prefix-held c =
-    let k = c .before .before .before .cut-byte in
-    let l = c .before .before .before .before .before .before .before .loop in
-    let w = same-room _ _ _ (l .held) (k .last .0) _ (k .ensures) (l .inv .room) in
-    omega (arith, w, l .inv .short)
-
-slice-aggregate-on-line : tie.Need-slice-aggregate-on-line Inv-loop μ-loop
-slice-aggregate-on-line c =
-    let k = c .before .before .before .before .cut-byte in
-    let l = c .before .before .before .before .before .before .before .before .loop in
-    let w = same-room _ _ _ (l .held) (k .last .0) _ (k .ensures) (l .inv .room) in
-    simp length-take (omega (arith, w, l .inv .short))
-
-on-line-requires : tie.Need-on-line-requires Inv-loop μ-loop
-on-line-requires c κs =
-    let k = c .before .before .before .before .before .cut-byte in
+on-held-requires : tie.Need-on-held-requires Inv-loop μ-loop
+on-held-requires c κs =
+    let a = c .before .before .before .before .before .before .before .before .before .before .before .before .before .before .args in
     let l = c .before .before .before .before .before .before .before .before .before .loop in
-    let w = same-room _ _ _ (l .held) (k .last .0) _ (k .ensures) (l .inv .room) in
-    simp length-take (omega (arith, w, c .before .before .before .before .before .before .before .before .loop-test .taken, c .before .before .before .before .before .before .before .before .before .before .before .before .before .before .pre, l .inv))
+    let k = c .before .before .before .before .before .before .before .cut in
+    let s : Replay = record { progress = l .progress; cutter = l .cutter } in
+    let more = c .before .before .before .before .before .before .before .before .loop-test .taken in
+    let fits = next-fits (a .state) (a .portion .now) (a .out .now) (l .i) s (l .at) (l .out) (l .inv) more (k .result) (k .ensures) in
+    let room = next-room (a .state) (a .portion .now) (a .out .now) (l .i) s (l .at) (l .out) (l .inv) more (k .result) (k .ensures) in
+    let little = next-little (a .state) (a .portion .now) (a .out .now) (l .i) s (l .at) (l .out) (l .inv) more (k .result) (k .ensures) in
+    let within = next-within (a .state) (a .portion .now) (a .out .now) (l .i) s (l .at) (l .out) (l .inv) more (k .result) (k .ensures) in
+    (omega (arith, fits, room), omega (arith, little, within, c .before .before .before .before .before .before .before .before .before .before .before .before .before .before .pre .1, l .inv .long))
 
 loop-less-2 : tie.Need-loop-less-2 Inv-loop μ-loop
-loop-less-2 c = search needs
+loop-less-2 c =
+    let a = c .before .before .before .before .before .before .before .before .before .before .before .before .before .before .before .before .before .before .args in
+    let l = c .before .before .before .before .before .before .before .before .before .before .before .before .before .loop in
+    let k = c .before .before .before .before .before .before .before .before .before .before .before .cut in
+    let s : Replay = record { progress = l .progress; cutter = l .cutter } in
+    let more = c .before .before .before .before .before .before .before .before .before .before .before .before .loop-test .taken in
+    omega (arith, more, farther (a .state) (a .portion .now) (a .out .now) (l .i) s (l .at) (l .out) (l .inv) more (k .result) (k .ensures))
 
 loop-again-2 : tie.Need-loop-again-2 Inv-loop μ-loop
 loop-again-2 c =
     let a = c .before .before .before .before .before .before .before .before .before .before .before .before .before .before .before .before .before .before .args in
     let l = c .before .before .before .before .before .before .before .before .before .before .before .before .before .loop in
-    let k = c .before .before .before .before .before .before .before .before .before .cut-byte in
-    let t = c .before .before .before .on-line in
-    let s : Replay = record { progress = l .progress; held = l .held; count = l .n } in
-    let told = c .before .before .before .before .before .before .enum-told2 .given .1 in
+    let k = c .before .before .before .before .before .before .before .before .before .before .before .cut in
+    let s : Replay = record { progress = l .progress; cutter = l .cutter } in
     let more = c .before .before .before .before .before .before .before .before .before .before .before .before .loop-test .taken in
-    turn-closed (a .state) (a .portion .now) (a .out .now) (l .i) s (l .at) (l .out) (l .inv) (omega (arith, more)) (k .last .0) (k .result) (k .ensures) told (t .result) (t .last .1 .1 .0) (t .ensures)
+    let t = c .before .before .before .on-held in
+    turn-closed (a .state) (a .portion .now) (a .out .now) (l .i) s (l .at) (l .out) (l .inv) more (k .result) (k .ensures) (c .before .before .before .before .before .before .before .before .enum-told2 .given .1) (t .result) (t .last .1 .1 .1 .0) (t .ensures)
 
 enum-told-3 : tie.Need-enum-told-3 Inv-loop μ-loop
 enum-told-3 c = search needs
@@ -95,16 +87,22 @@ refuse-shape-requires : tie.Need-refuse-shape-requires Inv-loop μ-loop
 refuse-shape-requires c κs = search needs
 
 loop-less-3 : tie.Need-loop-less-3 Inv-loop μ-loop
-loop-less-3 c = search needs
+loop-less-3 c =
+    let a = c .before .before .before .before .before .before .before .before .before .before .before .args in
+    let l = c .before .before .before .before .before .before .loop in
+    let k = c .before .before .before .before .cut in
+    let s : Replay = record { progress = l .progress; cutter = l .cutter } in
+    let more = c .before .before .before .before .before .loop-test .taken in
+    omega (arith, more, farther (a .state) (a .portion .now) (a .out .now) (l .i) s (l .at) (l .out) (l .inv) more (k .result) (k .ensures))
 
 loop-again-3 : tie.Need-loop-again-3 Inv-loop μ-loop
 loop-again-3 c =
-    let a = c .before .before .before .before .before .before .before .before .before .before .before .before .before .args in
-    let l = c .before .before .before .before .before .before .before .before .loop in
-    let k = c .before .before .before .before .cut-byte in
-    let s : Replay = record { progress = l .progress; held = l .held; count = l .n } in
-    let told = c .before .enum-told3 .given .1 in
-    turn-filled (a .state) (a .portion .now) (a .out .now) (l .i) s (l .at) (l .out) (l .inv) (omega arith) (k .last .0) (k .result) (k .ensures) told (c .refuse-shape .result) (c .refuse-shape .ensures)
+    let a = c .before .before .before .before .before .before .before .before .before .before .before .args in
+    let l = c .before .before .before .before .before .before .loop in
+    let k = c .before .before .before .before .cut in
+    let s : Replay = record { progress = l .progress; cutter = l .cutter } in
+    let more = c .before .before .before .before .before .loop-test .taken in
+    turn-long (a .state) (a .portion .now) (a .out .now) (l .i) s (l .at) (l .out) (l .inv) more (k .result) (k .ensures) (c .before .enum-told3 .given .1) (c .refuse-shape .result) (c .refuse-shape .ensures)
 
 taken-requires : tie.Need-taken-requires Inv-loop μ-loop
 taken-requires c κs = search needs
@@ -116,7 +114,7 @@ returns : tie.Need-returns Inv-loop μ-loop
 returns c =
     let a = c .before .before .before .before .before .before .before .args in
     let l = c .before .before .loop in
-    let s : Replay = record { progress = l .progress; held = l .held; count = l .n } in
+    let s : Replay = record { progress = l .progress; cutter = l .cutter } in
     turn-last (a .state) (a .portion .now) (a .out .now) (l .i) s (l .at) (l .out) (c .taken .result) (l .inv) (omega arith) (c .taken .ensures)
 
 pub feed-bytes-spec : {M : Type 1} → statement M
@@ -126,18 +124,12 @@ feed-bytes-spec =
     Inv-loop
     μ-loop
     loop-holds
-    shared-slice-read-b
-    add-i
-    slice-aggregate-cut-byte
-    cut-byte-requires
-    add-n
+    cut-requires
     enum-told
     loop-less
     loop-again
     enum-told-2
-    array-share-prefix-held
-    slice-aggregate-on-line
-    on-line-requires
+    on-held-requires
     loop-less-2
     loop-again-2
     enum-told-3

@@ -12,7 +12,7 @@ returns : tie.Need-returns
 unfolding lastIf
 returns c =
     let r = c .before .before .args .state in
-    ap (λ (t : Bool). lastIf t (r .progress)) (sym (eq-eqb (r .count) 0 (c .if1 .taken)))
+    ap (λ (t : Bool). lastIf t (r .progress)) (sym (eq-eqb (r .cutter .count) 0 (c .if1 .taken)))
 
 refuse-shape-requires : tie.Need-refuse-shape-requires
 refuse-shape-requires c κs = search needs
@@ -21,7 +21,7 @@ returns-2 : tie.Need-returns-2
 unfolding lastIf
 returns-2 c =
     let r = c .before .before .before .args .state in
-    c .refuse-shape .ensures ∙ ap (λ (t : Bool). lastIf t (r .progress)) (sym (ne-eqb (r .count) 0 (c .before .if1 .left)))
+    c .refuse-shape .ensures ∙ ap (λ (t : Bool). lastIf t (r .progress)) (sym (ne-eqb (r .cutter .count) 0 (c .before .if1 .left)))
 
 pub last-progress-spec : {M : Type 1} → statement M
 last-progress-spec = tie.close (tie.spec returns refuse-shape-requires returns-2)
