@@ -1,5 +1,6 @@
 // A portion of standard input.
 ghost use Rattle.io.specs.Counts.{Counts};
+use crate::failure::say_failure;
 use libc::EINTR;
 use libc::STDIN_FILENO;
 
@@ -13,7 +14,7 @@ pub struct Portion {
 fn tell_failed(buf: &[u8]) -> Portion
     ensures { λ r. ⌜ Counts (r .count) (now (buf .entry)) ⌝ }
 {
-    os::fail(b"failed: reading standard input");
+    say_failure(b"reading standard input");
     let count = io::count(0, buf);
     Portion {
         count,

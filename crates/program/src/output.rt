@@ -1,6 +1,7 @@
 // Bytes to standard output and standard error.
 ghost use Prim.Native.Nat.{_+_, _≤_};
 ghost use lib.ListN.{length};
+use crate::failure::say_failure;
 use libc::EINTR;
 use libc::STDERR_FILENO;
 use libc::STDOUT_FILENO;
@@ -40,11 +41,18 @@ pub fn write_out(bytes: &[u8]) -> bool {
     if write_all(STDOUT_FILENO, bytes) {
         return true;
     }
-    os::fail(b"failed: writing standard output");
+    say_failure(b"writing standard output");
     false
 }
 
 // Words for a person, on standard error.
 pub fn say(words: &[u8]) {
     write_all(STDERR_FILENO, words);
+}
+
+// A number for a person, on standard error.
+pub fn say_number(n: u64) {
+    let mut text = [0u8; 20];
+    let count = io::decimal(n, &mut text);
+    say(&text[..count]);
 }

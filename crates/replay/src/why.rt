@@ -1,7 +1,7 @@
 // Why a recording was refused, in one line on standard error.
 use files::Replay;
-use libc::STDERR_FILENO;
 use program::say;
+use program::say_number;
 use program::words::say_refusal;
 
 // The line that was refused: the settings that a replay holds pass their check once a settings line was accepted.
@@ -12,7 +12,7 @@ fn say_place(state: Replay) {
         return;
     }
     say(b"row ");
-    io::print_decimal(STDERR_FILENO, progress.done as u64 + 1);
+    say_number(progress.done as u64 + 1);
 }
 
 // Says nothing where nothing was refused.
@@ -23,7 +23,7 @@ pub(crate) fn tell(state: Replay) {
     }
     say_place(state);
     say(b" is refused with ");
-    io::print_decimal(STDERR_FILENO, refusal as u64);
+    say_number(refusal as u64);
     say(b": ");
     say_refusal(refusal);
     say(b"\n");

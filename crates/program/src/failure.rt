@@ -1,0 +1,47 @@
+// A call of the system that failed, told on standard error.
+use crate::output::say;
+use crate::output::say_number;
+use libc::EAGAIN;
+use libc::EBADF;
+use libc::EFBIG;
+use libc::EINVAL;
+use libc::EIO;
+use libc::EISDIR;
+use libc::ENOSPC;
+use libc::EPERM;
+use libc::EPIPE;
+
+// No error is negative, but only a test shows it.
+fn say_error_number(error: i32) {
+    say(b"error ");
+    if 0 <= error {
+        say_number(error as u64);
+    }
+}
+
+// What a read or a write can fail with, in the C library's words; any other error by its number.
+fn say_error(error: i32) {
+    match error {
+        EPERM => say(b"Operation not permitted"),
+        EIO => say(b"Input/output error"),
+        EBADF => say(b"Bad file descriptor"),
+        EAGAIN => say(b"Resource temporarily unavailable"),
+        EISDIR => say(b"Is a directory"),
+        EINVAL => say(b"Invalid argument"),
+        EFBIG => say(b"File too large"),
+        ENOSPC => say(b"No space left on device"),
+        EPIPE => say(b"Broken pipe"),
+        _ => say_error_number(error),
+    }
+}
+
+// One line, to be written just after the call: what was tried, and why it failed. The kit's `os::fail` has the C library's
+// words for every error, but gives up where a signal interrupts it.
+pub(crate) fn say_failure(tried: &[u8]) {
+    let error = os::errno();
+    say(b"failed: ");
+    say(tried);
+    say(b": ");
+    say_error(error);
+    say(b"\n");
+}
