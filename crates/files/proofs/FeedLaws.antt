@@ -6,15 +6,15 @@ use mathlib.Core.List.{List, [], _∷_, _++_, append-assoc, append-nil}
 use Prim.Native.Nat.{ℕ, _+_, _≤_, _<_}
 use native.Mathlib.Nat.{add-zero}
 use native.Mathlib.Omega.{arith}
-use lib.ListN.{length, take, drop, length-append, length-set, length-take, length-drop, take-append-drop, drop-of-length-le}
-use lib.Seq.{sets, length-sets, drop-drop}
+use lib.ListN.{length, drop, length-append, length-set, drop-of-length-le}
+use lib.Seq.{sets, length-sets}
 use Rattle.text.specs.declared.lines.Closer.the-variants.{CrLf}
 use Rattle.text.specs.declared.lines.Cut.{Cut}
 use Rattle.text.specs.declared.lines.Cut.the-variants.{Held, Closed, TooLong}
 use Rattle.text.specs.declared.cutter.Cutter.{Cutter}
 use Rattle.text.specs.declared.cutter.PieceCut.{PieceCut}
 use Rattle.text.specs.Lines.{cutOf}
-use Rattle.text.specs.Cutter.{Piece, pieceBy, pieceOf, heldRoom, heldLine, holding, emptied, cutFrom, pieceAnswer}
+use Rattle.text.specs.Cutter.{Piece, pieceBy, pieceOf, heldRoom, heldLine, holding, emptied, pieceAnswer}
 use Rattle.files.specs.declared.progress.Progress.{Progress}
 use Rattle.files.specs.declared.progress.Noted.{Noted}
 use Rattle.files.specs.declared.replay.Replay.{Replay}
@@ -24,7 +24,7 @@ use Rattle.files.specs.Replay.{lineLimit, nextCut, afterCut, wroteCut, f
 use Rattle.files.specs.device.Calls.{LineNoted, PortionFed}
 use Rattle.text.proofs.StoreLaws.{sets-append}
 use Rattle.text.proofs.CutLaws.{by-cut, next-length}
-use Rattle.text.proofs.PieceLaws.{IsPiece, is-piece, held-with, holding-on, answer-short}
+use Rattle.text.proofs.PieceLaws.{held-with, holding-on, PieceTaken, piece-taken}
 
 -- ---- a portion in two parts
 
@@ -116,44 +116,15 @@ module _ (r : Replay) (p before : List ℕ) (i : ℕ) (s : Replay) (at : ℕ) (o
   abbrev piece : Piece
   piece = pieceOf CrLf lineLimit (heldLine (s .cutter)) (drop i p)
 
-  cut-off : k ≡ cutFrom (s .cutter) i piece
-  cut-off = answer ∙ answer-short CrLf lineLimit (s .cutter) p i (turn .short)
-
-  held-length : length (heldLine (s .cutter)) ≡ s .cutter .count
-  held-length = rw length-take (omega (arith, turn .short, turn .room))
-
-  cut-piece : IsPiece lineLimit (heldLine (s .cutter)) (drop i p) piece
-  cut-piece = is-piece CrLf lineLimit (heldLine (s .cutter)) (drop i p) (omega (arith, held-length, turn .short))
-
-  next-is : k .next ≡ i + length (piece .bytes)
-  next-is = ap (λ (x : PieceCut). x .next) cut-off
-
-  count-is : k .cutter .count ≡ s .cutter .count + length (piece .bytes)
-  count-is = ap (λ (x : PieceCut). x .cutter .count) cut-off
+  pub taken : PieceTaken CrLf lineLimit (s .cutter) p i k
+  taken = piece-taken CrLf lineLimit (s .cutter) p i (turn .short) (omega arith) (turn .room) k answer
 
   pub farther : i < k .next
-  farther =
-      let some : 0 < length (drop i p) = rw length-drop (omega (arith, more)) in
-      omega (arith, next-is, cut-piece .some some)
+  farther = taken .farther more
 
-  pub next-within : k .next ≤ length p
-  next-within =
-      let front = rw (length-take, length-drop) at (ap length (cut-piece .front)) in
-      omega (arith, next-is, front, more)
-
-  pub next-room : length (k .cutter .held) ≡ heldRoom
-  next-room = ap (λ (x : PieceCut). length (x .cutter .held)) cut-off ∙ length-sets (s .cutter .held) (s .cutter .count) (piece .bytes) ∙ turn .room
-
-  pub next-fits : k .cutter .count ≤ lineLimit
-  next-fits = omega (arith, count-is, held-length, cut-piece .within)
-
-  pub next-little : at + k .cutter .count ≤ r .cutter .count + k .next
-  next-little = omega (arith, count-is, next-is, turn .little)
-
-  rest-is : drop i p ≡ piece .bytes ++ drop (k .next) p
-  rest-is =
-      sym (take-append-drop (length (piece .bytes)) (drop i p))
-      ∙ rw (cut-piece .front, next-is, drop-drop (length (piece .bytes)) i p)
+  -- its line has room in the output
+  pub line-room : at + k .cutter .count ≤ r .cutter .count + length p
+  line-room = omega (arith, turn .little, taken .counted, taken .within more)
 
   fed-piece : PieceFed s piece
   fed-piece = piece-fed s (drop i p) (turn .short) (turn .room)
@@ -163,16 +134,16 @@ module _ (r : Replay) (p before : List ℕ) (i : ℕ) (s : Replay) (at : ℕ) (o
 
   state-on : fed s (drop i p) ≡ fed (afterCut (k .cut) (s .progress) (k .cutter)) (drop (k .next) p)
   state-on =
-      ap (fed s) rest-is
+      ap (fed s) (taken .rest)
       ∙ fed-append s (piece .bytes) (drop (k .next) p)
-      ∙ ap (λ (q : Replay). fed q (drop (k .next) p)) (fed-piece .state ∙ ap (λ (x : PieceCut). afterCut (x .cut) (s .progress) (x .cutter)) (sym cut-off))
+      ∙ ap (λ (q : Replay). fed q (drop (k .next) p)) (fed-piece .state ∙ ap (λ (x : PieceCut). afterCut (x .cut) (s .progress) (x .cutter)) (sym (taken .answer)))
 
   writes-on : writes s (drop i p) ≡ wrote ++ writes (afterCut (k .cut) (s .progress) (k .cutter)) (drop (k .next) p)
   writes-on =
-      ap (writes s) rest-is
+      ap (writes s) (taken .rest)
       ∙ writes-append s (piece .bytes) (drop (k .next) p)
-      ∙ ap (λ (w : List ℕ). w ++ writes (fed s (piece .bytes)) (drop (k .next) p)) (fed-piece .wrote ∙ ap (λ (x : PieceCut). wroteCut (x .cut) (s .progress) (x .cutter)) (sym cut-off))
-      ∙ ap (λ (q : Replay). wrote ++ writes q (drop (k .next) p)) (fed-piece .state ∙ ap (λ (x : PieceCut). afterCut (x .cut) (s .progress) (x .cutter)) (sym cut-off))
+      ∙ ap (λ (w : List ℕ). w ++ writes (fed s (piece .bytes)) (drop (k .next) p)) (fed-piece .wrote ∙ ap (λ (x : PieceCut). wroteCut (x .cut) (s .progress) (x .cutter)) (sym (taken .answer)))
+      ∙ ap (λ (q : Replay). wrote ++ writes q (drop (k .next) p)) (fed-piece .state ∙ ap (λ (x : PieceCut). afterCut (x .cut) (s .progress) (x .cutter)) (sym (taken .answer)))
 
   turn-on : (q : Replay) (at' : ℕ) (out' : List ℕ) → afterCut (k .cut) (s .progress) (k .cutter) ≡ q → at' ≡ at + length wrote → out' ≡ sets out at wrote
       → length (q .cutter .held) ≡ heldRoom → q .cutter .count < lineLimit → at' + q .cutter .count ≤ r .cutter .count + k .next → FeedTurn r p before (k .next) q at' out'
@@ -181,7 +152,7 @@ module _ (r : Replay) (p before : List ℕ) (i : ℕ) (s : Replay) (at : ℕ) (o
       let on : writes s (drop i p) ≡ wrote ++ ws = writes-on ∙ ap (λ (x : Replay). wrote ++ writes x (drop (k .next) p)) e in
       let size : length (writes s (drop i p)) ≡ length wrote + length ws = ap length on ∙ length-append wrote ws in
       record {
-        within = next-within;
+        within = taken .within more;
         long = rw (g, length-sets) (turn .long);
         room = room;
         short = short;
@@ -195,20 +166,19 @@ module _ (r : Replay) (p before : List ℕ) (i : ℕ) (s : Replay) (at : ℕ) (o
   unfolding afterCut wroteCut
   turn-held told =
       let z : at ≡ at + 0 = omega arith in
-      let held : piece .cut ≡ Held = sym (ap (λ (x : PieceCut). x .cut) cut-off) ∙ told in
-      turn-on (record { progress = s .progress; cutter = k .cutter }) at out (rw told) (rw told z) (rw told) next-room (omega (arith, count-is, held-length, cut-piece .short held)) next-little
+      turn-on (record { progress = s .progress; cutter = k .cutter }) at out (rw told) (rw told z) (rw told) (taken .room) (taken .short told) (omega (arith, turn .little, taken .counted))
 
   pub turn-closed : k .cut ≡ Closed → (t : Noted) (out' : List ℕ) → LineNoted (k .cutter .count) out out' at (afterLine (s .progress) (heldLine (k .cutter))) (wroteLine (s .progress) (heldLine (k .cutter))) t
       → FeedTurn r p before (k .next) (record { progress = t .progress; cutter = emptied (k .cutter) }) (t .written) out'
   unfolding afterCut wroteCut
   turn-closed told t out' n =
-      turn-on (record { progress = t .progress; cutter = emptied (k .cutter) }) (t .written) out' (rw (told, n .noted)) (rw (told, n .noted)) (rw told (n .output)) next-room (omega arith) (omega (arith, n .short, next-little))
+      turn-on (record { progress = t .progress; cutter = emptied (k .cutter) }) (t .written) out' (rw (told, n .noted)) (rw (told, n .noted)) (rw told (n .output)) (taken .room) (omega arith) (omega (arith, n .short, turn .little, taken .counted))
 
   pub turn-long : k .cut ≡ TooLong → (x : Progress) → x ≡ refuse (s .progress) → FeedTurn r p before (k .next) (record { progress = x; cutter = emptied (k .cutter) }) at out
   unfolding afterCut wroteCut
   turn-long told x e =
       let z : at ≡ at + 0 = omega arith in
-      turn-on (record { progress = x; cutter = emptied (k .cutter) }) at out (rw (told, e)) (rw told z) (rw told) next-room (omega arith) (omega (arith, next-little))
+      turn-on (record { progress = x; cutter = emptied (k .cutter) }) at out (rw (told, e)) (rw told z) (rw told) (taken .room) (omega arith) (omega (arith, turn .little, taken .counted))
 
 pub turn-last : (r : Replay) (p before : List ℕ) (i : ℕ) (s : Replay) (at : ℕ) (out : List ℕ) (x : Fed) → FeedTurn r p before i s at out → length p ≤ i
     → x ≡ record { taken = true; state = s; written = at } → PortionFed r p before out x

@@ -1,19 +1,19 @@
 -- What a byte does to the line that has begun, and the lines of a stream one byte on.
 -- Assumes nothing.
-use mathlib.Core.Path.{_≡_, refl, sym, ap, _∙_}
-use mathlib.Core.Bool.{Bool, true, false, cond, _&&_, and-false, or-false}
+use mathlib.Core.Path.{_≡_, refl, ap, _∙_}
+use mathlib.Core.Bool.{true, false, cond, _&&_, and-false, or-false}
 use mathlib.Core.List.{List, [], _∷_, _++_}
 use Prim.Native.Nat.{ℕ, suc, _+_, _-_, _≤_, _<_}
 use native.Mathlib.Omega.{arith}
 use lib.Dec.{eqb}
 use lib.ListN.{length, getD, take, length-append, length-take}
-use lib.Seq.{take-suc, take-length, take-take, take-append-seam, append-snoc}
+use lib.Seq.{take-suc, append-snoc}
 use borrow.Author.Tests.{eq-eqb, ne-eqb, eqb-true, eqb-false}
 use Rattle.text.specs.declared.lines.Closer.{Closer}
 use Rattle.text.specs.declared.lines.Cut.{Cut}
 use Rattle.text.specs.declared.lines.Cut.the-variants.{Held, Closed, TooLong}
 use Rattle.text.specs.Line.{isLf, endsCrLf}
-use Rattle.text.specs.Lines.{endsLf, closedBy, lastLine, linesFrom, linesOf, cutOf, joined}
+use Rattle.text.specs.Lines.{endsLf, closedBy, lastLine, linesFrom, cutOf, joined}
 use Rattle.text.proofs.Cases.{by-cond}
 use Rattle.text.proofs.ShapeLaws.{ends-two}
 

@@ -10,7 +10,7 @@ use lib.ListN.{length, take, length-append}
 use lib.Seq.{take-length, take-take, take-append-seam}
 use Rattle.text.specs.declared.lines.Closer.{Closer}
 use Rattle.text.specs.declared.lines.Cut.{Cut}
-use Rattle.text.specs.Lines.{closedBy, lastLine, linesFrom, linesOf, cutOf, Cutting, oneMore, cuttingBy, cutting, joined}
+use Rattle.text.specs.Lines.{closedBy, lastLine, linesFrom, linesOf, Cutting, oneMore, cuttingBy, cutSoFar, cutting, joined}
 use Rattle.text.proofs.Cases.{by-cond}
 use Rattle.text.proofs.CutLaws.{by-cut, lines-cons, lines-nil, last-line, joined-none, joined-more}
 
@@ -30,7 +30,7 @@ module _ (closer : Closer) (limit : ℕ) where
       (λ e n. rw e (cut-lines next s))
 
   -- where no line was too long, nothing is left unread; where one was, it has as many bytes as the limit
-  by-end : (Ended : Cutting → Type 0) (line s : List ℕ) → ((l : List ℕ) → Ended (record { lines = []; held = l; tooLong = false; unread = [] })) → ((l u : List ℕ) → length l ≡ limit → Ended (record { lines = []; held = l; tooLong = true; unread = u })) → ((l : List ℕ) (c : Cutting) → Ended c → Ended (oneMore l c)) → Ended (cutting closer limit line s)
+  by-end : (Ended : Cutting → Type 0) (line s : List ℕ) → ((l : List ℕ) → Ended (cutSoFar l)) → ((l u : List ℕ) → length l ≡ limit → Ended (record { lines = []; held = l; tooLong = true; unread = u })) → ((l : List ℕ) (c : Cutting) → Ended c → Ended (oneMore l c)) → Ended (cutting closer limit line s)
   unfolding cutting
   by-end Ended line [] open-end long-end more = open-end line
   by-end Ended line (b ∷ s) open-end long-end more =

@@ -10,3 +10,4 @@ pub mod LinesLaws
 pub mod CutLaws
 pub mod CuttingLaws
 pub mod PieceLaws
+pub mod CutTurns

@@ -1,27 +1,23 @@
--- The pieces that a cutter answers: what they are of a stream, and a cutter that goes on byte by byte.
+-- The pieces that a cutter answers: what they are of a stream, and what a client may rely on.
 -- Assumes nothing.
 use mathlib.Core.Path.{_≡_, refl, sym, ap, _∙_}
-use mathlib.Core.Bool.{Bool, true, false, false≢true}
 use mathlib.Core.List.{List, [], _∷_, _++_, append-nil}
-use Prim.Native.Nat.{ℕ, suc, _+_, _≤_, _<_}
-use native.Mathlib.Nat.{add-zero}
-use native.Mathlib.Numerals.{add-one}
+use Prim.Native.Nat.{ℕ, _+_, _≤_, _<_}
 use native.Mathlib.Omega.{arith}
 use lib.Dec.{ltb}
-use lib.ListN.{length, getD, take, drop, set, length-append, length-set, length-take, drop-of-length-le}
-use lib.Seq.{sets, sets-eq, take-at, take-suc-set, append-snoc, drop-cons}
+use lib.ListN.{length, take, drop, length-append, length-take, length-drop, take-append-drop}
+use lib.Seq.{sets-eq, length-sets, take-at, append-snoc, drop-drop}
 use borrow.Author.Tests.{ltb-true, ltb-false, lt-ltb, le-ltb}
 use Rattle.text.specs.declared.lines.Closer.{Closer}
 use Rattle.text.specs.declared.lines.Cut.{Cut}
-use Rattle.text.specs.declared.lines.Cut.the-variants.{Held, Closed, TooLong}
+use Rattle.text.specs.declared.lines.Cut.the-variants.{Held, TooLong}
 use Rattle.text.specs.declared.cutter.Cutter.{Cutter}
 use Rattle.text.specs.declared.cutter.PieceCut.{PieceCut}
-use Rattle.text.specs.Lines.{cutOf, Cutting, cuttingBy, cutting}
-use Rattle.text.specs.Cutter.{Piece, pieceBy, pieceOf, goesOn, heldRoom, heldLine, holding, limitOf, cutFrom, pieceFrom, pieceIf, pieceAnswer}
-use Rattle.text.specs.device.Calls.{ByteCut, pieceWith}
+use Rattle.text.specs.Lines.{cuttingBy, cutSoFar, cutting}
+use Rattle.text.specs.Cutter.{Piece, pieceBy, pieceOf, heldRoom, heldLine, holding, limitOf, cutFrom, pieceFrom, pieceIf, pieceAnswer}
 use Rattle.text.proofs.Cases.{by-cond}
 use Rattle.text.proofs.StoreLaws.{sets-append}
-use Rattle.text.proofs.CutLaws.{by-cut, next-length, held-not-full}
+use Rattle.text.proofs.CutLaws.{by-cut}
 
 -- ---- a piece of a stream
 
@@ -54,7 +50,7 @@ module _ (closer : Closer) (limit : ℕ) where
   -- the cutting of a stream, piece by piece
   pub cutting-by-pieces : (line s : List ℕ)
       → let x : Piece = pieceOf closer limit line s in cutting closer limit line s
-      ≡ cuttingBy (x .cut) (line ++ x .bytes) (drop (length (x .bytes)) s) (record { lines = []; held = line ++ x .bytes; tooLong = false; unread = [] }) (cutting closer limit [] (drop (length (x .bytes)) s))
+      ≡ cuttingBy (x .cut) (line ++ x .bytes) (drop (length (x .bytes)) s) (cutSoFar (line ++ x .bytes)) (cutting closer limit [] (drop (length (x .bytes)) s))
   unfolding pieceOf cutting
   cutting-by-pieces line [] = rw (append-nil line)
   cutting-by-pieces line (b ∷ s) =
@@ -63,7 +59,7 @@ module _ (closer : Closer) (limit : ℕ) where
       (λ (k : Cut).
       let x : Piece = pieceBy k b (pieceOf closer limit next s) in
       cuttingBy k next s (cutting closer limit next s) (cutting closer limit [] s)
-      ≡ cuttingBy (x .cut) (line ++ x .bytes) (drop (length (x .bytes)) (b ∷ s)) (record { lines = []; held = line ++ x .bytes; tooLong = false; unread = [] }) (cutting closer limit [] (drop (length (x .bytes)) (b ∷ s))))
+      ≡ cuttingBy (x .cut) (line ++ x .bytes) (drop (length (x .bytes)) (b ∷ s)) (cutSoFar (line ++ x .bytes)) (cutting closer limit [] (drop (length (x .bytes)) (b ∷ s))))
       (λ e. refl)
       (λ e f. refl)
       (λ e f. let x = pieceOf closer limit next s in rw (← append-snoc line b (x .bytes)) (cutting-by-pieces next s))
@@ -101,75 +97,57 @@ module _ (closer : Closer) (limit : ℕ) (c : Cutter) (p : List ℕ) (from : ℕ
   unfolding pieceIf
   answer-full h = rw (le-ltb (c .count) (limitOf limit) h)
 
--- ---- what holds of a cutter that goes on: it answers what the first one answers
+-- ---- what a client of the cutter relies on, of a line that has room for a byte more
 
-pub record CutTurn (closer : Closer) (limit : ℕ) (first : Cutter) (p : List ℕ) (from : ℕ) (c : Cutter) (i : ℕ) : Type 0 where
-  pub short : c .count < limit
-  pub room : length (c .held) ≡ heldRoom
-  pub same : pieceFrom closer limit first p from ≡ pieceFrom closer limit c p i
+pub record PieceTaken (closer : Closer) (limit : ℕ) (c : Cutter) (p : List ℕ) (from : ℕ) (r : PieceCut) : Type 0 where
+  pub answer : r ≡ cutFrom c from (pieceOf closer limit (heldLine c) (drop from p))
+  pub line : heldLine (r .cutter) ≡ heldLine c ++ pieceOf closer limit (heldLine c) (drop from p) .bytes
+  pub rest : drop from p ≡ pieceOf closer limit (heldLine c) (drop from p) .bytes ++ drop (r .next) p
+  pub room : length (r .cutter .held) ≡ heldRoom
+  pub fits : r .cutter .count ≤ limit
+  pub short : r .cut ≡ Held → r .cutter .count < limit
+  pub counted : r .cutter .count + from ≡ c .count + r .next
+  pub farther : from < length p → from < r .next
+  pub within : from < length p → r .next ≤ length p
 
-only-held : (k : Cut) → goesOn k ≡ true → k ≡ Held
-only-held Held e = refl
-only-held Closed e = absurd (false≢true e)
-only-held TooLong e = absurd (false≢true e)
+module _ (closer : Closer) (limit : ℕ) (c : Cutter) (p : List ℕ) (from : ℕ) (short : c .count < limit) (fits : limit ≤ heldRoom) (room : length (c .held) ≡ heldRoom)
+    (r : PieceCut) (e : r ≡ pieceAnswer closer limit c p from) where
+  abbrev piece : Piece
+  piece = pieceOf closer limit (heldLine c) (drop from p)
 
-module _ (c : Cutter) (i b : ℕ) (x : Piece) where
-  -- a byte that is only held, and then a piece
-  on-by : (k : Cut) → goesOn k ≡ true → cutFrom c i (pieceBy k b x) ≡ cutFrom (record { held = set (c .held) (c .count) b; count = c .count + 1 }) (i + 1) x
-  on-by Held e =
-      let m : c .count + suc (length (x .bytes)) ≡ c .count + 1 + length (x .bytes) = omega arith in
-      let j : i + suc (length (x .bytes)) ≡ i + 1 + length (x .bytes) = omega arith in
-      rw (m, j, add-one)
-  on-by Closed e = absurd (false≢true e)
-  on-by TooLong e = absurd (false≢true e)
+  cut-from : r ≡ cutFrom c from piece
+  cut-from =
+      let same = limit-same limit fits in
+      e ∙ answer-short closer limit c p from (omega (arith, short, same)) ∙ ap (λ (n : ℕ). pieceFrom closer n c p from) same
 
-  -- the last byte of a piece
-  done-by : (k : Cut) → goesOn k ≡ false → cutFrom c i (pieceBy k b x) ≡ pieceWith k (set (c .held) (c .count) b) (c .count + 1) (i + 1)
-  done-by Held e = absurd (false≢true (sym e))
-  done-by Closed e = refl
-  done-by TooLong e = refl
+  held-length : length (heldLine c) ≡ c .count
+  held-length = rw length-take (omega (arith, short, fits, room))
 
-module _ (closer : Closer) (limit : ℕ) (c : Cutter) (p : List ℕ) (i : ℕ) where
-  from-end : length p ≤ i → pieceFrom closer limit c p i ≡ pieceWith Held (c .held) (c .count) i
-  unfolding pieceOf
-  from-end l = rw (drop-of-length-le p l, add-zero (c .count), add-zero i)
+  cut-piece : IsPiece limit (heldLine c) (drop from p) piece
+  cut-piece = is-piece closer limit (heldLine c) (drop from p) (omega (arith, held-length, short))
 
-  from-byte : i < length p → let next : List ℕ = heldLine c ++ (getD p i 0 ∷ []) in pieceFrom closer limit c p i ≡ cutFrom c i (pieceBy (cutOf closer limit next) (getD p i 0) (pieceOf closer limit next (drop (i + 1) p)))
-  unfolding pieceOf
-  from-byte k = rw (drop-cons p i 0 k, add-one)
+  pub piece-taken : PieceTaken closer limit c p from r
+  piece-taken =
+      let next : r .next ≡ from + length (piece .bytes) = ap (λ (x : PieceCut). x .next) cut-from in
+      let count : r .cutter .count ≡ c .count + length (piece .bytes) = ap (λ (x : PieceCut). x .cutter .count) cut-from in
+      let front = rw (length-take, length-drop) at (ap length (cut-piece .front)) in
+      let left : from < length p → 0 < length (drop from p) = λ more. rw length-drop (omega (arith, more)) in
+      record {
+        answer = cut-from;
+        line = ap (λ (x : PieceCut). heldLine (x .cutter)) cut-from ∙ held-with c (piece .bytes) (omega (arith, cut-piece .within, held-length, fits, room));
+        rest = sym (take-append-drop (length (piece .bytes)) (drop from p)) ∙ rw (cut-piece .front, next, drop-drop (length (piece .bytes)) from p);
+        room = ap (λ (x : PieceCut). length (x .cutter .held)) cut-from ∙ length-sets (c .held) (c .count) (piece .bytes) ∙ room;
+        fits = omega (arith, count, held-length, cut-piece .within);
+        short = λ told. omega (arith, count, held-length, cut-piece .short (sym (ap (λ (x : PieceCut). x .cut) cut-from) ∙ told));
+        counted = omega (arith, count, next);
+        farther = λ more. omega (arith, next, cut-piece .some (left more));
+        within = λ more. omega (arith, next, front, more);
+      }
 
-module _ (closer : Closer) (limit : ℕ) (first : Cutter) (p : List ℕ) (from : ℕ) (c : Cutter) (i : ℕ) (turn : CutTurn closer limit first p from c i) where
-  pub turn-end : length p ≤ i → pieceWith Held (c .held) (c .count) i ≡ pieceFrom closer limit first p from
-  turn-end l = sym (turn .same ∙ from-end closer limit c p i l)
-
-  module _ (k : i < length p) (fits : limit ≤ heldRoom) (held : List ℕ) (cut : Cut) (x : ByteCut closer limit (c .count) (getD p i 0) (c .held) held cut) where
-    abbrev next : Cutter
-    next = record { held = held; count = c .count + 1 }
-
-    abbrev more : Piece
-    more = pieceOf closer limit (heldLine c ++ (getD p i 0 ∷ [])) (drop (i + 1) p)
-
-    from-here : pieceFrom closer limit first p from ≡ cutFrom c i (pieceBy cut (getD p i 0) more)
-    from-here = turn .same ∙ from-byte closer limit c p i k ∙ ap (λ (t : Cut). cutFrom c i (pieceBy t (getD p i 0) more)) (sym (x .cut))
-
-    next-line : heldLine next ≡ heldLine c ++ (getD p i 0 ∷ [])
-    next-line = rw (x .held, add-one) (take-suc-set (c .held) (c .count) (getD p i 0) (omega (arith, turn .short, turn .room)))
-
-    next-short : goesOn cut ≡ true → c .count + 1 < limit
-    next-short e =
-        let n = next-length closer limit (c .count) (getD p i 0) (c .held) (omega (arith, turn .short, turn .room)) in
-        let f = held-not-full closer limit (heldLine c ++ (getD p i 0 ∷ [])) (sym (x .cut) ∙ only-held cut e) in
-        omega (arith, n, f, turn .short)
-
-    pub turn-on : goesOn cut ≡ true → CutTurn closer limit first p from next (i + 1)
-    turn-on e =
-        let stored = ap (λ (l : List ℕ). cutFrom (record { held = l; count = c .count + 1 }) (i + 1) more) (sym (x .held)) in
-        let lined = ap (λ (l : List ℕ). cutFrom next (i + 1) (pieceOf closer limit l (drop (i + 1) p))) (sym next-line) in
-        record {
-          short = next-short e;
-          room = rw (x .held, length-set) (turn .room);
-          same = from-here ∙ on-by c i (getD p i 0) more cut e ∙ stored ∙ lined;
-        }
-
-    pub turn-done : goesOn cut ≡ false → pieceWith cut held (c .count + 1) (i + 1) ≡ pieceFrom closer limit first p from
-    turn-done e = sym (from-here ∙ done-by c i (getD p i 0) more cut e ∙ rw (x .held))
+  -- the cutting of the portion goes on from the answer: where the piece is held, it ends there
+  pub cutting-goes-on : cutting closer limit (heldLine c) (drop from p)
+      ≡ cuttingBy (r .cut) (heldLine (r .cutter)) (drop (r .next) p) (cutSoFar (heldLine (r .cutter))) (cutting closer limit [] (drop (r .next) p))
+  cutting-goes-on =
+      let next = ap (λ (x : PieceCut). x .next) cut-from in
+      cutting-by-pieces closer limit (heldLine c) (drop from p)
+      ∙ rw (piece-taken .line, ap (λ (x : PieceCut). x .cut) cut-from, next, drop-drop (length (piece .bytes)) from p)

@@ -59,8 +59,12 @@ cuttingBy Held line s held closed = held
 cuttingBy Closed line s held closed = oneMore line closed
 cuttingBy TooLong line s held closed = record { lines = []; held = line; tooLong = true; unread = s }
 
+-- at the end of what was read
+abbrev pub cutSoFar : List ℕ → Cutting
+cutSoFar line = record { lines = []; held = line; tooLong = false; unread = [] }
+
 unfoldable pub cutting : Closer → ℕ → List ℕ → List ℕ → Cutting
-cutting closer limit line [] = record { lines = []; held = line; tooLong = false; unread = [] }
+cutting closer limit line [] = cutSoFar line
 cutting closer limit line (b ∷ s) =
     cuttingBy (cutOf closer limit (line ++ (b ∷ []))) (line ++ (b ∷ [])) s
     (cutting closer limit (line ++ (b ∷ [])) s)

@@ -5,7 +5,7 @@ use native.Mathlib.Omega.{arith}
 use lib.ListN.{length}
 use borrow.Author.Needs.{needs}
 use Rattle.files.specs.declared.replay.Replay.{Replay}
-use Rattle.files.proofs.FeedLaws.{FeedTurn, turn-first, farther, next-within, next-room, next-fits, next-little, turn-held, turn-closed, turn-long, turn-last}
+use Rattle.files.proofs.FeedLaws.{FeedTurn, turn-first, taken, farther, line-room, turn-held, turn-closed, turn-long, turn-last}
 use Rattle.files.proofs.replay.feed_bytes.Statement.{statement}
 use Rattle.files.proofs.replay.feed_bytes.Tie as tie
 
@@ -55,11 +55,9 @@ on-held-requires c κs =
     let k = c .before .before .before .before .before .before .before .cut in
     let s : Replay = record { progress = l .progress; cutter = l .cutter } in
     let more = c .before .before .before .before .before .before .before .before .loop-test .taken in
-    let fits = next-fits (a .state) (a .portion .now) (a .out .now) (l .i) s (l .at) (l .out) (l .inv) more (k .result) (k .ensures) in
-    let room = next-room (a .state) (a .portion .now) (a .out .now) (l .i) s (l .at) (l .out) (l .inv) more (k .result) (k .ensures) in
-    let little = next-little (a .state) (a .portion .now) (a .out .now) (l .i) s (l .at) (l .out) (l .inv) more (k .result) (k .ensures) in
-    let within = next-within (a .state) (a .portion .now) (a .out .now) (l .i) s (l .at) (l .out) (l .inv) more (k .result) (k .ensures) in
-    (omega (arith, fits, room), omega (arith, little, within, c .before .before .before .before .before .before .before .before .before .before .before .before .before .before .pre .1, l .inv .long))
+    let piece = taken (a .state) (a .portion .now) (a .out .now) (l .i) s (l .at) (l .out) (l .inv) more (k .result) (k .ensures) in
+    let room = line-room (a .state) (a .portion .now) (a .out .now) (l .i) s (l .at) (l .out) (l .inv) more (k .result) (k .ensures) in
+    (omega (arith, piece .fits, piece .room), omega (arith, room, c .before .before .before .before .before .before .before .before .before .before .before .before .before .before .pre .1, l .inv .long))
 
 loop-less-2 : tie.Need-loop-less-2 Inv-loop μ-loop
 loop-less-2 c =

@@ -5,8 +5,7 @@ use Prim.Native.Nat.{_-_}
 use native.Mathlib.Omega.{arith}
 use lib.ListN.{length}
 use borrow.Author.Needs.{needs}
-use Rattle.text.specs.declared.cutter.Cutter.{Cutter}
-use Rattle.text.proofs.PieceLaws.{CutTurn, turn-end, turn-on, turn-done}
+use Rattle.text.proofs.CutTurns.{CutTurn, turn-end, turn-on, turn-done}
 use Rattle.text.proofs.cutter.cut_on.Statement.{statement}
 use Rattle.text.proofs.cutter.cut_on.Tie as tie
 
