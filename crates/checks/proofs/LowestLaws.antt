@@ -1,14 +1,14 @@
 -- The first check that fails is the one of the least number, in a list of rising numbers.
 -- Assumes nothing.
-use Prim.Native.Nat.{ℕ, suc, _≤_, _<_}
+use Prim.Native.Nat.{ℕ, _≤_, _<_}
 use native.Mathlib.Omega.{arith}
 use mathlib.Core.Bool.{Bool, true, false, cond, _&&_, false≢true}
-use mathlib.Core.List.{List, [], _∷_, _++_}
+use mathlib.Core.List.{List, [], _∷_}
 use mathlib.Core.Logic.{_⊎_, inl, inr}
-use mathlib.Core.Path.{_≡_, refl, sym, _∙_}
+use mathlib.Core.Path.{_≡_, refl, sym}
 use borrow.Author.Tests.{ltb-true}
 use lib.Dec.{ltb}
-use Rattle.checks.specs.Checks.{Check, check, firstFailed, lowest}
+use Rattle.checks.specs.Checks.{Check, check, lowest}
 use Rattle.checks.proofs.Tests.{both-true}
 
 -- the numbers rise, from above `last` on

@@ -22,6 +22,8 @@ use Rattle.files.specs.declared.row.RowRead.the-variants as row
 use Rattle.files.specs.declared.settings_line.SettingsRead.{SettingsRead}
 use Rattle.files.specs.declared.settings_line.SettingsRead.the-variants as settings-line
 use Rattle.text.specs.Line.{rightShape, numbersOf}
+use Rattle.relay.specs.Refusals.{wrongBlock}
+use Rattle.files.specs.Refusals.{wrongShape, wrongNumber}
 use Rattle.files.specs.Progress.{freshProgress, opened, ticked, rowDone, afterTick, stepped, afterBy, afterLine}
 use Rattle.files.specs.Row.{rowWidths, rowOf, rowRefusal, rowAnswer}
 use Rattle.files.specs.SettingsLine.{settingsWidths, settingsIn, settingsLineRefusal, settingsLineAnswer}
@@ -32,13 +34,13 @@ accepted-block : (s : List ℕ) (last : ℕ) (x : Row) → rowAnswer s last ≡ 
 unfolding rowAnswer rowRefusal
 accepted-block s last x = go (rightShape rowWidths s) (eqb (rowOf (numbersOf s) .number) (last + 1)) (leb (rowOf (numbersOf s) .block) 1) refl
   where
-    go : (a b d : Bool) → leb (rowOf (numbersOf s) .block) 1 ≡ d → cond (eqb (cond a (cond b (cond d 0 14) 13) 12) 0) (row.Accepted (rowOf (numbersOf s))) (row.Refused (cond a (cond b (cond d 0 14) 13) 12)) ≡ row.Accepted x → x .block ≤ 1
+    go : (a b d : Bool) → leb (rowOf (numbersOf s) .block) 1 ≡ d → cond (eqb (cond a (cond b (cond d 0 wrongBlock) wrongNumber) wrongShape) 0) (row.Accepted (rowOf (numbersOf s))) (row.Refused (cond a (cond b (cond d 0 wrongBlock) wrongNumber) wrongShape)) ≡ row.Accepted x → x .block ≤ 1
     go true true true q e = let same : rowOf (numbersOf s) ≡ x = cc in rw (← same) (leb-true (rowOf (numbersOf s) .block) 1 q)
     go true true false q e = let z : _≡_ {A = ℕ} 0 1 = cc in absurd (omega arith)
     go true false d q e = let z : _≡_ {A = ℕ} 0 1 = cc in absurd (omega arith)
     go false b d q e = let z : _≡_ {A = ℕ} 0 1 = cc in absurd (omega arith)
 
-shaped : (a : Bool) (n : ℕ) → cond a n 12 ≡ 0 → n ≡ 0
+shaped : (a : Bool) (n : ℕ) → cond a n wrongShape ≡ 0 → n ≡ 0
 shaped true n e = e
 shaped false n e = absurd (omega arith)
 

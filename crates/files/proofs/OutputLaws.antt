@@ -7,6 +7,7 @@ use native.Mathlib.Numerals.{add-one}
 use native.Mathlib.Omega.{arith}
 use lib.ListN.{length, set, length-append}
 use lib.Seq.{sets}
+use Rattle.text.specs.Line.{lf, comma}
 use Rattle.text.specs.Number.{decimal}
 use Rattle.files.specs.Output.{pairLine, changeLine, changeRoom, endLine, endRoom}
 use Rattle.files.specs.Row.{lastRow}
@@ -18,13 +19,13 @@ pair-length a b = rw (length-append, length-append) (omega arith)
 
 -- the four stores of a pair, one after the other
 pub pair-sets : (s : List ℕ) (at a b : ℕ)
-    → set (sets (set (sets s at (decimal a)) (at + length (decimal a)) 44) (at + length (decimal a) + 1) (decimal b)) (at + length (decimal a) + 1 + length (decimal b)) 10
+    → set (sets (set (sets s at (decimal a)) (at + length (decimal a)) comma) (at + length (decimal a) + 1) (decimal b)) (at + length (decimal a) + 1 + length (decimal b)) lf
     ≡ sets s at (pairLine a b)
 pair-sets s at a b =
-    let x : List ℕ = decimal a ++ (44 ∷ decimal b) in
-    let z : at + length (decimal a) + 1 + length (decimal b) ≡ at + length (decimal a ++ (44 ∷ decimal b)) = rw length-append (omega arith) in
+    let x : List ℕ = decimal a ++ (comma ∷ decimal b) in
+    let z : at + length (decimal a) + 1 + length (decimal b) ≡ at + length (decimal a ++ (comma ∷ decimal b)) = rw length-append (omega arith) in
     let y : at + length (decimal a) + 1 ≡ suc (at + length (decimal a)) = add-one (at + length (decimal a)) in
-    rw (z, y, ← sets-append s at (decimal a) (44 ∷ decimal b)) (sym (sets-append s at (decimal a ++ (44 ∷ decimal b)) (10 ∷ [])))
+    rw (z, y, ← sets-append s at (decimal a) (comma ∷ decimal b)) (sym (sets-append s at (decimal a ++ (comma ∷ decimal b)) (lf ∷ [])))
 
 -- a change line has at most 6 + 1 + 3 + 1 bytes
 pub change-short : (row outputs : ℕ) → row ≤ lastRow → outputs < 256 → length (changeLine row outputs) ≤ changeRoom

@@ -14,6 +14,7 @@ use Rattle.files.specs.Row.{rowWidths, rowRefusal, rowAnswer}
 use Rattle.files.specs.SettingsLine.{settingsWidths, settingsLineRefusal, settingsLineAnswer}
 use Rattle.text.specs.declared.lines.Closer.the-variants.{CrLf}
 use Rattle.text.specs.Lines.{linesFrom}
+use Rattle.files.specs.Refusals.{wrongShape}
 use Rattle.files.specs.Progress.{stopped, afterBy, wroteBy, afterLine, wroteLine, endOf, refuseBy, refuse}
 use Rattle.files.specs.Replay.{byLines, lineLimit}
 use Rattle.text.proofs.Cases.{by-cond, not-both, not-true}
@@ -77,8 +78,8 @@ stopped-ends p n (l ∷ ls) e =
 
 refused-ends-by : (g : Stage) (p : Progress) (ls : List (List ℕ)) → p .stage ≡ g → byLines (refuseBy g p) ls ≡ endOf (refuseBy g p)
 unfolding refuseBy
-refused-ends-by Opening p ls e = stopped-ends (stopped 12 p) 12 ls refl
-refused-ends-by Running p ls e = stopped-ends (stopped 12 p) 12 ls refl
+refused-ends-by Opening p ls e = stopped-ends (stopped wrongShape p) wrongShape ls refl
+refused-ends-by Running p ls e = stopped-ends (stopped wrongShape p) wrongShape ls refl
 refused-ends-by (Stopped n) p ls e = stopped-ends p n ls e
 
 pub refused-ends : (p : Progress) (ls : List (List ℕ)) → byLines (refuse p) ls ≡ endOf (refuse p)

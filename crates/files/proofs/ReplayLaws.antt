@@ -15,6 +15,7 @@ use Rattle.files.specs.SettingsLine.{settingsWidths, settingsIn, setting
 use Rattle.files.specs.Output.{endLine}
 use Rattle.text.specs.declared.lines.Closer.the-variants.{CrLf}
 use Rattle.text.specs.Lines.{linesOf}
+use Rattle.files.specs.Refusals.{wrongShape}
 use Rattle.files.specs.Progress.{freshProgress, stopped, opened, afterBy, wroteBy, endRefusal, endOf}
 use Rattle.files.specs.Replay.{byLines, replayOf}
 use Rattle.text.proofs.Cases.{by-cond}
@@ -24,7 +25,7 @@ use Rattle.text.proofs.CutLaws.{lines-nil, last-nothing, last-line}
 use Rattle.text.proofs.LinesLaws.{hasCrLf, has-ends, open-input, line-first}
 
 -- "an empty input (12)"
-pub replay-of-nothing : replayOf [] ≡ endLine 0 12
+pub replay-of-nothing : replayOf [] ≡ endLine 0 wrongShape
 unfolding replayOf byLines endRefusal
 replay-of-nothing = rw (lines-nil CrLf [], last-nothing)
 
@@ -50,14 +51,14 @@ pub replay-of-refused-settings : (s l : List ℕ) (ls : List (List ℕ)) (n : �
 unfolding replayOf
 replay-of-refused-settings s l ls n e h k = ap (byLines freshProgress) e ∙ refused-opening l ls n h k
 
-misshapen-settings : (l : List ℕ) → Misshapen l → settingsLineRefusal l ≡ 12
+misshapen-settings : (l : List ℕ) → Misshapen l → settingsLineRefusal l ≡ wrongShape
 unfolding settingsLineRefusal
 misshapen-settings l h = rw (h .no-settings)
 
 -- an input without CR LF, such as a settings line that is not closed
-pub replay-of-open-line : (s : List ℕ) → 0 < length s → hasCrLf s ≡ false → replayOf s ≡ endLine 0 12
+pub replay-of-open-line : (s : List ℕ) → 0 < length s → hasCrLf s ≡ false → replayOf s ≡ endLine 0 wrongShape
 replay-of-open-line s h k =
-    replay-of-refused-settings s s [] 12 (open-input s k ∙ last-line s h) (misshapen-settings s (open-misshapen s (has-ends s k))) (λ e. omega arith)
+    replay-of-refused-settings s s [] wrongShape (open-input s k ∙ last-line s h) (misshapen-settings s (open-misshapen s (has-ends s k))) (λ e. omega arith)
 
 accepted-settings : (l : List ℕ) → settingsLineRefusal l ≡ 0 → settingsLineAnswer l ≡ Accepted (settingsIn (numbersOf l))
 unfolding settingsLineAnswer
@@ -66,7 +67,7 @@ accepted-settings l e = rw e
 accepted-shape : (l : List ℕ) → settingsLineRefusal l ≡ 0 → rightShape settingsWidths l ≡ true
 unfolding settingsLineRefusal
 accepted-shape l =
-    by-cond (λ (n : ℕ). n ≡ 0 → rightShape settingsWidths l ≡ true) (rightShape settingsWidths l) (settingsRefusal (settingsIn (numbersOf l))) 12
+    by-cond (λ (n : ℕ). n ≡ 0 → rightShape settingsWidths l ≡ true) (rightShape settingsWidths l) (settingsRefusal (settingsIn (numbersOf l))) wrongShape
     (λ t e. t) (λ t e. absurd (omega arith))
 
 lines-one : (l : List ℕ) → settingsLineRefusal l ≡ 0 → linesOf CrLf l ≡ l ∷ []

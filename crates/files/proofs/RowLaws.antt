@@ -15,6 +15,8 @@ use Rattle.files.specs.declared.row.RowRead.the-variants.{Accepted, Refu
 use Rattle.text.specs.Number.{decimal}
 use Rattle.text.specs.Line.{rightShape, numbersOf, lineAnswer, fitsIn, written}
 use Rattle.text.specs.device.Calls.{Readable}
+use Rattle.relay.specs.Refusals.{wrongBlock}
+use Rattle.files.specs.Refusals.{wrongShape, wrongNumber}
 use Rattle.files.specs.Output.{changeRoom}
 use Rattle.files.specs.Row.{lastRow, rowWidths, rowOf, rowRefusal, rowAnswer, rowNumber}
 use Rattle.text.proofs.Cases.{by-cond}
@@ -40,9 +42,9 @@ module _ (s : List ℕ) (last : ℕ) where
   row-refused n e k = rw (e, ne-eqb n 0 k)
 
   module _ (r : Line) (e : r ≡ lineAnswer rowWidths s) where
-    pub row-shape : r .right ≡ false → Refused 12 ≡ rowAnswer s last
+    pub row-shape : r .right ≡ false → Refused wrongShape ≡ rowAnswer s last
     unfolding rowRefusal
-    row-shape t = row-refused 12 (rw (sym (line-shape rowWidths s (omega arith) r e) ∙ t)) (λ k. omega arith)
+    row-shape t = row-refused wrongShape (rw (sym (line-shape rowWidths s (omega arith) r e) ∙ t)) (λ k. omega arith)
 
     module _ (t : r .right ≡ true) where
       -- the number of field k, and that it fits
@@ -55,15 +57,15 @@ module _ (s : List ℕ) (last : ℕ) where
       right : rightShape rowWidths s ≡ true
       right = sym (line-shape rowWidths s (omega arith) r e) ∙ t
 
-      pub row-number : (getD (r .numbers) 0 0 ≡ last + 1 → ⊥) → Refused 13 ≡ rowAnswer s last
+      pub row-number : (getD (r .numbers) 0 0 ≡ last + 1 → ⊥) → Refused wrongNumber ≡ rowAnswer s last
       unfolding rowRefusal
-      row-number n = row-refused 13 (rw (right, ← row-at 0 (omega arith) .0, ne-eqb (getD (r .numbers) 0 0) (last + 1) n)) (λ k. omega arith)
+      row-number n = row-refused wrongNumber (rw (right, ← row-at 0 (omega arith) .0, ne-eqb (getD (r .numbers) 0 0) (last + 1) n)) (λ k. omega arith)
 
       module _ (n : getD (r .numbers) 0 0 ≡ last + 1) where
-        pub row-block : 1 < getD (r .numbers) 5 0 → Refused 14 ≡ rowAnswer s last
+        pub row-block : 1 < getD (r .numbers) 5 0 → Refused wrongBlock ≡ rowAnswer s last
         unfolding rowRefusal
         row-block b =
-            row-refused 14
+            row-refused wrongBlock
             (rw (right, ← row-at 0 (omega arith) .0, eq-eqb (getD (r .numbers) 0 0) (last + 1) n, ← row-at 5 (omega arith) .0, lt-leb (getD (r .numbers) 5 0) 1 b))
             (λ k. omega arith)
 
@@ -89,9 +91,9 @@ by-row P s last f g =
     by-cond P (eqb (rowRefusal s last) 0) (Accepted (rowOf (numbersOf s))) (Refused (rowRefusal s last))
     (λ e.
     by-cond (λ (n : ℕ). n ≡ 0 → P (Accepted (rowOf (numbersOf s)))) (rightShape rowWidths s)
-    (cond (eqb (getD (numbersOf s) 0 0) (last + 1)) (cond (leb (getD (numbersOf s) 5 0) 1) 0 14) 13) 12
+    (cond (eqb (getD (numbersOf s) 0 0) (last + 1)) (cond (leb (getD (numbersOf s) 5 0) 1) 0 wrongBlock) wrongNumber) wrongShape
     (λ t.
-    by-cond (λ (n : ℕ). n ≡ 0 → P (Accepted (rowOf (numbersOf s)))) (eqb (getD (numbersOf s) 0 0) (last + 1)) (cond (leb (getD (numbersOf s) 5 0) 1) 0 14) 13
+    by-cond (λ (n : ℕ). n ≡ 0 → P (Accepted (rowOf (numbersOf s)))) (eqb (getD (numbersOf s) 0 0) (last + 1)) (cond (leb (getD (numbersOf s) 5 0) 1) 0 wrongBlock) wrongNumber
     (λ n k.
     g (rowOf (numbersOf s)) t (omega (arith, shape-least rowWidths s (omega arith) t))
     (omega (arith, eqb-true (getD (numbersOf s) 0 0) (last + 1) n, number-below rowWidths s (omega arith) t 0)))

@@ -13,6 +13,7 @@ use Rattle.files.specs.declared.settings_line.SettingsRead.{SettingsRead
 use Rattle.files.specs.declared.settings_line.SettingsRead.the-variants.{Accepted, Refused}
 use Rattle.text.specs.Line.{numbersOf, lineAnswer}
 use Rattle.text.specs.device.Calls.{Readable}
+use Rattle.files.specs.Refusals.{wrongShape}
 use Rattle.files.specs.SettingsLine.{settingsWidths, settingsIn, settingsLineRefusal, settingsLineAnswer, settingsLineNumber}
 use Rattle.files.proofs.AnswerNumbers.{answer-number}
 use Rattle.text.proofs.LineLaws.{line-shape, line-number}
@@ -31,9 +32,9 @@ unfolding settingsLineAnswer
 settings-refused s n e k = rw (e, ne-eqb n 0 k)
 
 module _ (s : List ℕ) (r : Line) (e : r ≡ lineAnswer settingsWidths s) where
-  pub settings-shape : r .right ≡ false → Refused 12 ≡ settingsLineAnswer s
+  pub settings-shape : r .right ≡ false → Refused wrongShape ≡ settingsLineAnswer s
   unfolding settingsLineRefusal
-  settings-shape t = settings-refused s 12 (rw (sym (line-shape settingsWidths s (omega arith) r e) ∙ t)) (λ k. omega arith)
+  settings-shape t = settings-refused s wrongShape (rw (sym (line-shape settingsWidths s (omega arith) r e) ∙ t)) (λ k. omega arith)
 
   module _ (t : r .right ≡ true) where
     settings-at : (k : ℕ) → k < length settingsWidths → (getD (r .numbers) k 0 ≡ getD (numbersOf s) k 0) × (getD (numbersOf s) k 0 < 10 ^ getD settingsWidths k 0)

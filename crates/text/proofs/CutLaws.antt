@@ -12,7 +12,7 @@ use borrow.Author.Tests.{eq-eqb, ne-eqb, eqb-true, eqb-false}
 use Rattle.text.specs.declared.lines.Closer.{Closer}
 use Rattle.text.specs.declared.lines.Cut.{Cut}
 use Rattle.text.specs.declared.lines.Cut.the-variants.{Held, Closed, TooLong}
-use Rattle.text.specs.Line.{isLf, endsCrLf}
+use Rattle.text.specs.Line.{cr, lf, isLf, endsCrLf}
 use Rattle.text.specs.Lines.{endsLf, closedBy, lastLine, linesFrom, cutOf, joined}
 use Rattle.text.proofs.Cases.{by-cond}
 use Rattle.text.proofs.ShapeLaws.{ends-two}
@@ -21,20 +21,20 @@ use Rattle.text.proofs.ShapeLaws.{ends-two}
 
 pub cr-lf-first : (b : ℕ) (s : List ℕ) → endsCrLf (take 0 s ++ (b ∷ [])) ≡ false
 unfolding endsCrLf isLf
-cr-lf-first b s = rw (and-false (eqb b 13))
+cr-lf-first b s = rw (and-false (eqb b cr))
 
-cr-lf-some : (b k : ℕ) (s : List ℕ) → k < length s → endsCrLf (take (suc k) s ++ (b ∷ [])) ≡ eqb (getD s k 0) 13 && eqb b 10
+cr-lf-some : (b k : ℕ) (s : List ℕ) → k < length s → endsCrLf (take (suc k) s ++ (b ∷ [])) ≡ eqb (getD s k 0) cr && eqb b lf
 cr-lf-some b k s h = rw (take-suc s k 0 h, append-snoc (take k s) (getD s k 0) (b ∷ [])) (ends-two (take k s) (getD s k 0) b)
 
-pub cr-lf-at : (b n : ℕ) (s : List ℕ) → (n ≡ 0 → ⊥) → n ≤ length s → endsCrLf (take n s ++ (b ∷ [])) ≡ eqb (getD s (n - 1) 0) 13 && eqb b 10
+pub cr-lf-at : (b n : ℕ) (s : List ℕ) → (n ≡ 0 → ⊥) → n ≤ length s → endsCrLf (take n s ++ (b ∷ [])) ≡ eqb (getD s (n - 1) 0) cr && eqb b lf
 cr-lf-at b n s h l =
     let e : n ≡ suc (n - 1) = omega arith in
     ap (λ (m : ℕ). endsCrLf (take m s ++ (b ∷ []))) e ∙ cr-lf-some b (n - 1) s (omega arith)
 
 -- the last byte tells
-pub lf-last : (l : List ℕ) (b : ℕ) → endsLf (l ++ (b ∷ [])) ≡ eqb b 10
+pub lf-last : (l : List ℕ) (b : ℕ) → endsLf (l ++ (b ∷ [])) ≡ eqb b lf
 unfolding endsLf isLf
-lf-last [] b = or-false (eqb b 10)
+lf-last [] b = or-false (eqb b lf)
 lf-last (a ∷ l) b =
     let n : length (l ++ (b ∷ [])) ≡ length l + 1 = length-append l (b ∷ []) in
     rw (ne-eqb (suc (length (l ++ (b ∷ [])))) 1 (λ e. omega arith)) (lf-last l b)

@@ -20,6 +20,7 @@ use Rattle.text.proofs.CutLaws.{next-length, held-not-full}
 
 pub record CutTurn (closer : Closer) (limit : ℕ) (first : Cutter) (p : List ℕ) (from : ℕ) (c : Cutter) (i : ℕ) : Type 0 where
   pub short : c .count < limit
+  pub fits : limit ≤ heldRoom
   pub room : length (c .held) ≡ heldRoom
   pub same : pieceFrom closer limit first p from ≡ pieceFrom closer limit c p i
 
@@ -57,7 +58,7 @@ module _ (closer : Closer) (limit : ℕ) (first : Cutter) (p : List ℕ) (from :
   pub turn-end : length p ≤ i → pieceWith Held (c .held) (c .count) i ≡ pieceFrom closer limit first p from
   turn-end l = sym (turn .same ∙ from-end closer limit c p i l)
 
-  module _ (k : i < length p) (fits : limit ≤ heldRoom) (held : List ℕ) (cut : Cut) (x : ByteCut closer limit (c .count) (getD p i 0) (c .held) held cut) where
+  module _ (k : i < length p) (held : List ℕ) (cut : Cut) (x : ByteCut closer limit (c .count) (getD p i 0) (c .held) held cut) where
     abbrev next : Cutter
     next = record { held = held; count = c .count + 1 }
 
@@ -68,11 +69,11 @@ module _ (closer : Closer) (limit : ℕ) (first : Cutter) (p : List ℕ) (from :
     from-here = turn .same ∙ from-byte closer limit c p i k ∙ ap (λ (t : Cut). cutFrom c i (pieceBy t (getD p i 0) more)) (sym (x .cut))
 
     next-line : heldLine next ≡ heldLine c ++ (getD p i 0 ∷ [])
-    next-line = rw (x .held, add-one) (take-suc-set (c .held) (c .count) (getD p i 0) (omega (arith, turn .short, turn .room)))
+    next-line = rw (x .held, add-one) (take-suc-set (c .held) (c .count) (getD p i 0) (omega (arith, turn .short, turn .fits, turn .room)))
 
     next-short : goesOn cut ≡ true → c .count + 1 < limit
     next-short e =
-        let n = next-length closer limit (c .count) (getD p i 0) (c .held) (omega (arith, turn .short, turn .room)) in
+        let n = next-length closer limit (c .count) (getD p i 0) (c .held) (omega (arith, turn .short, turn .fits, turn .room)) in
         let f = held-not-full closer limit (heldLine c ++ (getD p i 0 ∷ [])) (sym (x .cut) ∙ only-held cut e) in
         omega (arith, n, f, turn .short)
 
@@ -82,6 +83,7 @@ module _ (closer : Closer) (limit : ℕ) (first : Cutter) (p : List ℕ) (from :
         let lined = ap (λ (l : List ℕ). cutFrom next (i + 1) (pieceOf closer limit l (drop (i + 1) p))) (sym next-line) in
         record {
           short = next-short e;
+          fits = turn .fits;
           room = rw (x .held, length-set) (turn .room);
           same = from-here ∙ on-by c i (getD p i 0) more cut e ∙ stored ∙ lined;
         }

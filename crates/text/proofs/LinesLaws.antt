@@ -11,7 +11,7 @@ use lib.ListN.{length, take, length-append}
 use lib.Seq.{take-append-seam}
 use borrow.Author.Tests.{ne-eqb, leb-true}
 use Rattle.text.specs.Number.{isDigit, allDigits}
-use Rattle.text.specs.Line.{isLf, endsCrLf, body, crLf, fieldsIn, fitsIn, rightShape, spelled}
+use Rattle.text.specs.Line.{cr, lf, comma, isLf, endsCrLf, body, crLf, fieldsIn, fitsIn, rightShape, spelled}
 use Rattle.text.specs.declared.lines.Closer.{Closer}
 use Rattle.text.specs.declared.lines.Closer.the-variants.{CrLf}
 use Rattle.text.specs.Lines.{closedBy, lastLine, linesFrom, linesOf, joined}
@@ -69,12 +69,12 @@ lines-closed closer s = closed-from closer [] s
 
 abbrev beginsLf : List ℕ → Bool
 beginsLf [] = false
-beginsLf (b ∷ s) = eqb b 10
+beginsLf (b ∷ s) = eqb b lf
 
 -- CR LF stands somewhere in a text
 unfoldable pub hasCrLf : List ℕ → Bool
 hasCrLf [] = false
-hasCrLf (a ∷ s) = eqb a 13 && beginsLf s || hasCrLf s
+hasCrLf (a ∷ s) = eqb a cr && beginsLf s || hasCrLf s
 
 -- no line has it before its last byte
 unfoldable pub onlyAtEnd : List (List ℕ) → Bool
@@ -95,21 +95,21 @@ or-none a b h k = rw (h, k)
 -- CR LF that comes with a byte stands at the end
 has-snoc : (l : List ℕ) (b : ℕ) → hasCrLf l ≡ false → endsCrLf (l ++ (b ∷ [])) ≡ false → hasCrLf (l ++ (b ∷ [])) ≡ false
 unfolding hasCrLf endsCrLf isLf
-has-snoc [] b h e = or-none (eqb b 13 && false) false (and-false (eqb b 13)) refl
-has-snoc (a ∷ []) b h e = or-none (eqb a 13 && eqb b 10) (eqb b 13 && false || false) (or-left (eqb a 13 && eqb b 10) _ e) (rw (and-false (eqb b 13)))
+has-snoc [] b h e = or-none (eqb b cr && false) false (and-false (eqb b cr)) refl
+has-snoc (a ∷ []) b h e = or-none (eqb a cr && eqb b lf) (eqb b cr && false || false) (or-left (eqb a cr && eqb b lf) _ e) (rw (and-false (eqb b cr)))
 has-snoc (a ∷ c ∷ l) b h e =
-    or-none (eqb a 13 && eqb c 10) (hasCrLf (c ∷ (l ++ (b ∷ [])))) (or-left (eqb a 13 && eqb c 10) _ h)
-    (has-snoc (c ∷ l) b (or-right (eqb a 13 && eqb c 10) _ h) (or-right (eqb a 13 && isLf (c ∷ (l ++ (b ∷ [])))) _ e))
+    or-none (eqb a cr && eqb c lf) (hasCrLf (c ∷ (l ++ (b ∷ [])))) (or-left (eqb a cr && eqb c lf) _ h)
+    (has-snoc (c ∷ l) b (or-right (eqb a cr && eqb c lf) _ h) (or-right (eqb a cr && isLf (c ∷ (l ++ (b ∷ [])))) _ e))
 
 has-front : (l : List ℕ) (n : ℕ) → hasCrLf l ≡ false → hasCrLf (take n l) ≡ false
 unfolding hasCrLf
 has-front l zero h = refl
 has-front [] (suc n) h = refl
-has-front (a ∷ []) (suc zero) h = rw (and-false (eqb a 13))
+has-front (a ∷ []) (suc zero) h = rw (and-false (eqb a cr))
 has-front (a ∷ []) (suc (suc n)) h = h
-has-front (a ∷ b ∷ l) (suc zero) h = rw (and-false (eqb a 13))
+has-front (a ∷ b ∷ l) (suc zero) h = rw (and-false (eqb a cr))
 has-front (a ∷ b ∷ l) (suc (suc n)) h =
-    or-none (eqb a 13 && eqb b 10) (hasCrLf (b ∷ take n l)) (or-left (eqb a 13 && eqb b 10) _ h) (has-front (b ∷ l) (suc n) (or-right (eqb a 13 && eqb b 10) _ h))
+    or-none (eqb a cr && eqb b lf) (hasCrLf (b ∷ take n l)) (or-left (eqb a cr && eqb b lf) _ h) (has-front (b ∷ l) (suc n) (or-right (eqb a cr && eqb b lf) _ h))
 
 nothing-has : hasCrLf [] ≡ false
 unfolding hasCrLf
@@ -137,12 +137,12 @@ lines-only-at-end s = only-from [] s nothing-has
 pub has-ends : (l : List ℕ) → hasCrLf l ≡ false → endsCrLf l ≡ false
 unfolding hasCrLf endsCrLf isLf
 has-ends [] h = refl
-has-ends (a ∷ []) h = rw (and-false (eqb a 13))
-has-ends (a ∷ b ∷ []) h = or-none (eqb a 13 && eqb b 10) (eqb b 13 && false || false) (or-left (eqb a 13 && eqb b 10) _ h) (rw (and-false (eqb b 13)))
+has-ends (a ∷ []) h = rw (and-false (eqb a cr))
+has-ends (a ∷ b ∷ []) h = or-none (eqb a cr && eqb b lf) (eqb b cr && false || false) (or-left (eqb a cr && eqb b lf) _ h) (rw (and-false (eqb b cr)))
 has-ends (a ∷ b ∷ d ∷ l) h =
-    or-none (eqb a 13 && (eqb (suc (suc (length l))) 1 && eqb b 10)) (endsCrLf (b ∷ d ∷ l))
-    (rw (ne-eqb (suc (suc (length l))) 1 (λ e. omega arith), and-false (eqb a 13)))
-    (has-ends (b ∷ d ∷ l) (or-right (eqb a 13 && eqb b 10) _ h))
+    or-none (eqb a cr && (eqb (suc (suc (length l))) 1 && eqb b lf)) (endsCrLf (b ∷ d ∷ l))
+    (rw (ne-eqb (suc (suc (length l))) 1 (λ e. omega arith), and-false (eqb a cr)))
+    (has-ends (b ∷ d ∷ l) (or-right (eqb a cr && eqb b lf) _ h))
 
 has-take : (l s : List ℕ) → hasCrLf (l ++ s) ≡ false → hasCrLf l ≡ false
 has-take l s h = rw (take-append-seam l s) at (has-front (l ++ s) (length l) h)
@@ -163,24 +163,24 @@ open-input s h = open-from [] s h
 -- no LF stands in a text
 unfoldable noLf : List ℕ → Bool
 noLf [] = true
-noLf (b ∷ s) = cond (eqb b 10) false (noLf s)
+noLf (b ∷ s) = cond (eqb b lf) false (noLf s)
 
 no-lf-join : (s t : List ℕ) → noLf s ≡ true → noLf t ≡ true → noLf (s ++ t) ≡ true
 unfolding noLf
 no-lf-join [] t h k = k
-no-lf-join (b ∷ s) t h k = by-cond (λ (x : Bool). (x ≡ true → cond (eqb b 10) false (noLf (s ++ t)) ≡ true)) (eqb b 10) false (noLf s)
+no-lf-join (b ∷ s) t h k = by-cond (λ (x : Bool). (x ≡ true → cond (eqb b lf) false (noLf (s ++ t)) ≡ true)) (eqb b lf) false (noLf s)
     (λ e f. absurd (not-both false f refl))
     (λ e f. rw e (no-lf-join s t f k)) h
 
-digit-no-lf : (d : ℕ) → isDigit d ≡ true → eqb d 10 ≡ false
-digit-no-lf d h = ne-eqb d 10 (λ e. let k = leb-true 48 d (both-true (leb 48 d) (leb d 57) h .0) in omega arith)
+digit-no-lf : (d : ℕ) → isDigit d ≡ true → eqb d lf ≡ false
+digit-no-lf d h = ne-eqb d lf (λ e. let k = leb-true 48 d (both-true (leb 48 d) (leb d 57) h .0) in omega arith)
 
 digits-no-lf : (f : List ℕ) → allDigits f ≡ true → noLf f ≡ true
 unfolding allDigits noLf
 digits-no-lf [] h = refl
 digits-no-lf (d ∷ f) h = rw (digit-no-lf d (both-true (isDigit d) (allDigits f) h .0)) (digits-no-lf f (both-true (isDigit d) (allDigits f) h .1))
 
-comma-no-lf : (s : List ℕ) → noLf s ≡ true → noLf (44 ∷ s) ≡ true
+comma-no-lf : (s : List ℕ) → noLf s ≡ true → noLf (comma ∷ s) ≡ true
 unfolding noLf
 comma-no-lf s h = h
 
@@ -195,26 +195,26 @@ spelled-no-lf [] (f ∷ fs) h = absurd (fit-none f fs h)
 spelled-no-lf (w ∷ ws) [] h = nothing-no-lf
 spelled-no-lf (w ∷ ws) (f ∷ []) h = digits-no-lf f (fit-digits w ws f [] h)
 spelled-no-lf (w ∷ ws) (f ∷ g ∷ gs) h =
-    no-lf-join f (44 ∷ spelled (g ∷ gs)) (digits-no-lf f (fit-digits w ws f (g ∷ gs) h))
+    no-lf-join f (comma ∷ spelled (g ∷ gs)) (digits-no-lf f (fit-digits w ws f (g ∷ gs) h))
     (comma-no-lf (spelled (g ∷ gs)) (spelled-no-lf ws (g ∷ gs) (fit-rest w ws f (g ∷ gs) h)))
 
 -- only LF closes a line
-ends-other : (l : List ℕ) (b : ℕ) → eqb b 10 ≡ false → endsCrLf (l ++ (b ∷ [])) ≡ false
+ends-other : (l : List ℕ) (b : ℕ) → eqb b lf ≡ false → endsCrLf (l ++ (b ∷ [])) ≡ false
 unfolding endsCrLf isLf
-ends-other [] b h = or-none (eqb b 13 && false) false (and-false (eqb b 13)) refl
-ends-other (a ∷ []) b h = or-none (eqb a 13 && eqb b 10) (eqb b 13 && false || false) (rw h (and-false (eqb a 13))) (rw (and-false (eqb b 13)))
+ends-other [] b h = or-none (eqb b cr && false) false (and-false (eqb b cr)) refl
+ends-other (a ∷ []) b h = or-none (eqb a cr && eqb b lf) (eqb b cr && false || false) (rw h (and-false (eqb a cr))) (rw (and-false (eqb b cr)))
 ends-other (a ∷ d ∷ l) b h =
     let n : length (l ++ (b ∷ [])) ≡ length l + 1 = length-append l (b ∷ []) in
-    or-none (eqb a 13 && (eqb (suc (length (l ++ (b ∷ [])))) 1 && eqb d 10)) (endsCrLf (d ∷ (l ++ (b ∷ []))))
-    (rw (ne-eqb (suc (length (l ++ (b ∷ [])))) 1 (λ e. omega arith), and-false (eqb a 13))) (ends-other (d ∷ l) b h)
+    or-none (eqb a cr && (eqb (suc (length (l ++ (b ∷ [])))) 1 && eqb d lf)) (endsCrLf (d ∷ (l ++ (b ∷ []))))
+    (rw (ne-eqb (suc (length (l ++ (b ∷ [])))) 1 (λ e. omega arith), and-false (eqb a cr))) (ends-other (d ∷ l) b h)
 
-first-from : (l t s : List ℕ) → noLf t ≡ true → linesFrom CrLf l (t ++ 13 ∷ 10 ∷ s) ≡ (l ++ (t ++ crLf)) ∷ linesFrom CrLf [] s
+first-from : (l t s : List ℕ) → noLf t ≡ true → linesFrom CrLf l (t ++ cr ∷ lf ∷ s) ≡ (l ++ (t ++ crLf)) ∷ linesFrom CrLf [] s
 unfolding linesFrom noLf
 first-from l [] s h =
-    let e : (l ++ (13 ∷ [])) ++ (10 ∷ []) ≡ l ++ crLf = append-assoc l (13 ∷ []) (10 ∷ []) in
-    rw (ends-other l 13 refl, e, crlf-ends l)
+    let e : (l ++ (cr ∷ [])) ++ (lf ∷ []) ≡ l ++ crLf = append-assoc l (cr ∷ []) (lf ∷ []) in
+    rw (ends-other l cr refl, e, crlf-ends l)
 first-from l (b ∷ t) s h =
-    by-cond (λ (x : Bool). (x ≡ true → linesFrom CrLf l (b ∷ (t ++ 13 ∷ 10 ∷ s)) ≡ (l ++ b ∷ (t ++ crLf)) ∷ linesFrom CrLf [] s)) (eqb b 10) false (noLf t)
+    by-cond (λ (x : Bool). (x ≡ true → linesFrom CrLf l (b ∷ (t ++ cr ∷ lf ∷ s)) ≡ (l ++ b ∷ (t ++ crLf)) ∷ linesFrom CrLf [] s)) (eqb b lf) false (noLf t)
     (λ e f. absurd (not-both false f refl))
     (λ e f. rw (ends-other l b e) (first-from (l ++ (b ∷ [])) t s f ∙ ap (λ (k : List ℕ). k ∷ linesFrom CrLf [] s) (append-assoc l (b ∷ []) (t ++ crLf)))) h
 

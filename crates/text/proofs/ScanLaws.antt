@@ -13,15 +13,15 @@ use lib.ListN.{length, getD, drop, set, length-drop, drop-of-length-le, List·ge
 use lib.Seq.{sets, drop-cons, drop-length, drop-drop, getD-drop}
 use borrow.Author.Tests.{le-leb, leb-true, eq-eqb, ne-eqb, eqb-true, eqb-false}
 use Rattle.text.specs.Number.{leading, valueOf, digitLimit}
-use Rattle.text.specs.Line.{isLf, narrow, fieldLimit, placed}
+use Rattle.text.specs.Line.{cr, lf, comma, isLf, narrow, fieldLimit, placed}
 use Rattle.text.proofs.Cases.{by-cond}
 use Rattle.checks.proofs.Tests.{both-true}
 use Rattle.text.proofs.DigitLaws.{leading-length, value-small}
 
 -- the byte that closes a field, by the widths of those after it
 unfoldable pub fieldCloser : List ℕ → ℕ
-fieldCloser [] = 13
-fieldCloser (w ∷ ws) = 44
+fieldCloser [] = cr
+fieldCloser (w ∷ ws) = comma
 
 -- whether the scan comes to the end of the line
 unfoldable pub scans : List ℕ → List ℕ → Bool
@@ -93,7 +93,7 @@ narrow-at (w ∷ ws) zero h = leb-true w digitLimit (both-true (leb w digitLimit
 narrow-at (w ∷ ws) (suc k) h = narrow-at ws k (both-true (leb w digitLimit) _ h .1)
 
 -- a byte that closes a field is there
-pub closed-within : (s : List ℕ) (p : ℕ) (t : Bool) → getD s p 0 ≡ cond t 13 44 → p < length s
+pub closed-within : (s : List ℕ) (p : ℕ) (t : Bool) → getD s p 0 ≡ cond t cr comma → p < length s
 closed-within s p true e = lt-of-not-le (λ l. omega (arith, List·getD-eq-default s 0 l))
 closed-within s p false e = lt-of-not-le (λ l. omega (arith, List·getD-eq-default s 0 l))
 
@@ -110,26 +110,26 @@ module _ (ws s : List ℕ) (k at : ℕ) (h : k < length ws) where
   abbrev here : ℕ
   here = length (leading (getD ws k 0) (drop at s))
 
-  closer-at : fieldCloser (drop (k + 1) ws) ≡ cond (eqb (k + 1) (length ws)) 13 44
+  closer-at : fieldCloser (drop (k + 1) ws) ≡ cond (eqb (k + 1) (length ws)) cr comma
   unfolding fieldCloser
   closer-at =
-      by-cond (λ (b : ℕ). fieldCloser (drop (k + 1) ws) ≡ b) (eqb (k + 1) (length ws)) 13 44
+      by-cond (λ (b : ℕ). fieldCloser (drop (k + 1) ws) ≡ b) (eqb (k + 1) (length ws)) cr comma
       (λ e. let z : drop (k + 1) ws ≡ [] = rw (eqb-true (k + 1) (length ws) e) (drop-length ws) in rw z)
       (λ e.
       let n : k + 1 < length ws = omega (arith, eqb-false (k + 1) (length ws) e) in
       rw (drop-cons ws (k + 1) 0 n))
 
-  closer-suc : fieldCloser (drop (suc k) ws) ≡ cond (eqb (k + 1) (length ws)) 13 44
+  closer-suc : fieldCloser (drop (suc k) ws) ≡ cond (eqb (k + 1) (length ws)) cr comma
   closer-suc = ap (λ (n : ℕ). fieldCloser (drop n ws)) (sym (add-one k)) ∙ closer-at
 
   -- the digits counted, and the byte after them the one that closes the field
   pub record FieldCloses : Type 0 where
-    pub due : getD s (at + here) 0 ≡ cond (eqb (k + 1) (length ws)) 13 44
+    pub due : getD s (at + here) 0 ≡ cond (eqb (k + 1) (length ws)) cr comma
     pub within : at + here < length s
 
-  pub field-closes : (n byte due : ℕ) → n ≡ here → byte ≡ getD s (at + n) 0 → due ≡ cond (eqb (k + 1) (length ws)) 13 44 → byte ≡ due → FieldCloses
+  pub field-closes : (n byte due : ℕ) → n ≡ here → byte ≡ getD s (at + n) 0 → due ≡ cond (eqb (k + 1) (length ws)) cr comma → byte ≡ due → FieldCloses
   field-closes n byte due e f g q =
-      let z : getD s (at + here) 0 ≡ cond (eqb (k + 1) (length ws)) 13 44 = ap (λ (m : ℕ). getD s (at + m) 0) (sym e) ∙ sym f ∙ q ∙ g in
+      let z : getD s (at + here) 0 ≡ cond (eqb (k + 1) (length ws)) cr comma = ap (λ (m : ℕ). getD s (at + m) 0) (sym e) ∙ sym f ∙ q ∙ g in
       record { due = z; within = closed-within s (at + here) (eqb (k + 1) (length ws)) z }
 
   further : drop (here + 1) (drop at s) ≡ drop (at + here + 1) s
@@ -141,12 +141,12 @@ module _ (ws s : List ℕ) (k at : ℕ) (h : k < length ws) where
   turn-empty e = rw (drop-cons ws k 0 h, e)
 
   -- another byte closes it
-  pub turn-open : (getD s (at + here) 0 ≡ cond (eqb (k + 1) (length ws)) 13 44 → ⊥) → scans (drop k ws) (drop at s) ≡ false
+  pub turn-open : (getD s (at + here) 0 ≡ cond (eqb (k + 1) (length ws)) cr comma → ⊥) → scans (drop k ws) (drop at s) ≡ false
   unfolding scans
   turn-open n = rw (drop-cons ws k 0 h, getD-drop at s here 0, closer-suc, ne-eqb _ _ n) (and-false (leb 1 here))
 
   -- one field further
-  pub turn-shape : 1 ≤ here → getD s (at + here) 0 ≡ cond (eqb (k + 1) (length ws)) 13 44
+  pub turn-shape : 1 ≤ here → getD s (at + here) 0 ≡ cond (eqb (k + 1) (length ws)) cr comma
       → scans (drop k ws) (drop at s) ≡ scans (drop (k + 1) ws) (drop (at + here + 1) s)
   unfolding scans
   turn-shape a e = rw (drop-cons ws k 0 h, le-leb 1 here a, getD-drop at s here 0, closer-suc, eq-eqb _ _ e, further, add-one k)
@@ -174,10 +174,10 @@ module _ (ws s : List ℕ) (k at : ℕ) (h : length ws ≤ k) where
         let z : drop (suc at) s ≡ [] = drop-of-length-le s {i = suc at} (omega arith) in
         drop-cons s at 0 (omega arith) ∙ rw z
 
-    pub end-other : (getD s at 0 ≡ 10 → ⊥) → scans (drop k ws) (drop at s) ≡ false
+    pub end-other : (getD s at 0 ≡ lf → ⊥) → scans (drop k ws) (drop at s) ≡ false
     unfolding scans isLf
-    end-other n = rw (drop-of-length-le ws h, last-byte, ne-eqb (getD s at 0) 10 n)
+    end-other n = rw (drop-of-length-le ws h, last-byte, ne-eqb (getD s at 0) lf n)
 
-    pub end-right : getD s at 0 ≡ 10 → scans (drop k ws) (drop at s) ≡ true
+    pub end-right : getD s at 0 ≡ lf → scans (drop k ws) (drop at s) ≡ true
     unfolding scans isLf
     end-right b = rw (drop-of-length-le ws h, last-byte, b)

@@ -12,7 +12,7 @@ use lib.ListN.{length, getD, drop, length-append, length-drop}
 use lib.Seq.{drop-cons, getD-append-seam, drop-append-add, take-append-seam}
 use borrow.Author.Tests.{leb-true, le-leb, eq-eqb, ne-eqb, eqb-true}
 use Rattle.text.specs.Number.{isDigit, allDigits, leading, decimal}
-use Rattle.text.specs.Line.{isLf, endsCrLf, body, crLf, intoFirst, fieldsIn, fitsIn, rightShape, valuesOf, numbersOf, spelled, written}
+use Rattle.text.specs.Line.{cr, lf, comma, isLf, endsCrLf, body, crLf, intoFirst, fieldsIn, fitsIn, rightShape, valuesOf, numbersOf, spelled, written}
 use Rattle.text.proofs.Cases.{by-cond, not-both, same-test}
 use Rattle.checks.proofs.Tests.{both-true}
 use Rattle.text.proofs.DigitLaws.{leading-length}
@@ -21,26 +21,26 @@ use Rattle.text.proofs.ScanLaws.{fieldCloser, scans, scanned, total, fi
 
 -- ---- CR LF at the end
 
-pub lf-only : (s : List ℕ) → isLf s ≡ true → s ≡ 10 ∷ []
+pub lf-only : (s : List ℕ) → isLf s ≡ true → s ≡ lf ∷ []
 unfolding isLf
 lf-only [] h = cc
-lf-only (a ∷ []) h = rw (eqb-true a 10 h)
-lf-only (a ∷ b ∷ s) h = let e = eqb-true (suc (suc (length s))) 1 (both-true (eqb (suc (suc (length s))) 1) (eqb a 10) h .0) in absurd (omega arith)
+lf-only (a ∷ []) h = rw (eqb-true a lf h)
+lf-only (a ∷ b ∷ s) h = let e = eqb-true (suc (suc (length s))) 1 (both-true (eqb (suc (suc (length s))) 1) (eqb a lf) h .0) in absurd (omega arith)
 
 pub ends-nothing : endsCrLf [] ≡ false
 unfolding endsCrLf
 ends-nothing = refl
 
 -- the last two bytes tell
-pub ends-two : (l : List ℕ) (a b : ℕ) → endsCrLf (l ++ (a ∷ b ∷ [])) ≡ eqb a 13 && eqb b 10
+pub ends-two : (l : List ℕ) (a b : ℕ) → endsCrLf (l ++ (a ∷ b ∷ [])) ≡ eqb a cr && eqb b lf
 unfolding endsCrLf isLf
-ends-two [] a b = rw (and-false (eqb b 13), or-false (eqb a 13 && eqb b 10))
+ends-two [] a b = rw (and-false (eqb b cr), or-false (eqb a cr && eqb b lf))
 ends-two (c ∷ l) a b =
     let n : length (l ++ (a ∷ b ∷ [])) ≡ length l + 2 = length-append l (a ∷ b ∷ []) in
-    rw (n, ne-eqb (length l + 2) 1 (λ e. omega arith), and-false (eqb c 13)) (ends-two l a b)
+    rw (n, ne-eqb (length l + 2) 1 (λ e. omega arith), and-false (eqb c cr)) (ends-two l a b)
 
 pub crlf-ends : (l : List ℕ) → endsCrLf (l ++ crLf) ≡ true
-crlf-ends l = ends-two l 13 10
+crlf-ends l = ends-two l cr lf
 
 -- what stands before CR LF
 pub body-crlf : (l : List ℕ) → body (l ++ crLf) ≡ l
@@ -56,8 +56,8 @@ ends-long : (s : List ℕ) → endsCrLf s ≡ true → 2 ≤ length s
 unfolding endsCrLf
 ends-long [] h = absurd (not-both false h refl)
 ends-long (a ∷ s) h =
-    or-cases (eqb a 13 && isLf s) (endsCrLf s)
-    (λ e. omega (arith, ap length (lf-only s (both-true (eqb a 13) (isLf s) e .1))))
+    or-cases (eqb a cr && isLf s) (endsCrLf s)
+    (λ e. omega (arith, ap length (lf-only s (both-true (eqb a cr) (isLf s) e .1))))
     (λ e. omega (arith, ends-long s e)) h
 
 -- a line that ends with CR LF is its body and CR LF
@@ -65,8 +65,8 @@ pub body-ends : (s : List ℕ) → endsCrLf s ≡ true → s ≡ body s ++ crLf
 unfolding endsCrLf
 body-ends [] h = absurd (not-both false h refl)
 body-ends (a ∷ s) h =
-    or-cases (eqb a 13 && isLf s) (endsCrLf s)
-    (λ e. rw (eqb-true a 13 (both-true (eqb a 13) (isLf s) e .0), lf-only s (both-true (eqb a 13) (isLf s) e .1)))
+    or-cases (eqb a cr && isLf s) (endsCrLf s)
+    (λ e. rw (eqb-true a cr (both-true (eqb a cr) (isLf s) e .0), lf-only s (both-true (eqb a cr) (isLf s) e .1)))
     (λ e.
     let k : suc (length s) - 2 ≡ suc (length s - 2) = omega (arith, ends-long s e) in
     rw k (ap (λ (t : List ℕ). a ∷ t) (body-ends s e))) h
@@ -75,30 +75,30 @@ body-ends (a ∷ s) h =
 
 -- the fields one after the other, each with the byte that closes it
 abbrev closeOf : List (List ℕ) → ℕ
-closeOf [] = 13
-closeOf (g ∷ gs) = 44
+closeOf [] = cr
+closeOf (g ∷ gs) = comma
 
 unfoldable closing : List (List ℕ) → List ℕ
-closing [] = 10 ∷ []
+closing [] = lf ∷ []
 closing (f ∷ fs) = f ++ closeOf fs ∷ closing fs
 
 closing-written : (f : List ℕ) (fs : List (List ℕ)) → closing (f ∷ fs) ≡ written (f ∷ fs)
 unfolding closing spelled
 closing-written f [] = refl
 closing-written f (g ∷ gs) =
-    ap (λ (t : List ℕ). f ++ 44 ∷ t) (closing-written g gs) ∙ sym (append-assoc f (44 ∷ spelled (g ∷ gs)) crLf)
+    ap (λ (t : List ℕ). f ++ comma ∷ t) (closing-written g gs) ∙ sym (append-assoc f (comma ∷ spelled (g ∷ gs)) crLf)
 
-close-into : (b : ℕ) (fs : List (List ℕ)) → closeOf (intoFirst b fs) ≡ 44
+close-into : (b : ℕ) (fs : List (List ℕ)) → closeOf (intoFirst b fs) ≡ comma
 close-into b [] = refl
 close-into b (f ∷ fs) = refl
 
 -- a text has at least one field
-close-fields : (s : List ℕ) → closeOf (fieldsIn s) ≡ 44
+close-fields : (s : List ℕ) → closeOf (fieldsIn s) ≡ comma
 unfolding fieldsIn
 close-fields [] = refl
-close-fields (b ∷ s) = by-cond (λ (fs : List (List ℕ)). closeOf fs ≡ 44) (eqb b 44) ([] ∷ fieldsIn s) (intoFirst b (fieldsIn s)) (λ e. refl) (λ e. close-into b (fieldsIn s))
+close-fields (b ∷ s) = by-cond (λ (fs : List (List ℕ)). closeOf fs ≡ comma) (eqb b comma) ([] ∷ fieldsIn s) (intoFirst b (fieldsIn s)) (λ e. refl) (λ e. close-into b (fieldsIn s))
 
-closing-into : (b : ℕ) (fs : List (List ℕ)) → closeOf fs ≡ 44 → closing (intoFirst b fs) ≡ b ∷ closing fs
+closing-into : (b : ℕ) (fs : List (List ℕ)) → closeOf fs ≡ comma → closing (intoFirst b fs) ≡ b ∷ closing fs
 unfolding closing
 closing-into b [] h = absurd (omega arith)
 closing-into b (f ∷ fs) h = refl
@@ -107,11 +107,11 @@ closing-fields : (s : List ℕ) → closing (fieldsIn s) ≡ s ++ crLf
 unfolding closing fieldsIn
 closing-fields [] = refl
 closing-fields (b ∷ s) =
-    by-cond (λ (fs : List (List ℕ)). closing fs ≡ b ∷ (s ++ crLf)) (eqb b 44) ([] ∷ fieldsIn s) (intoFirst b (fieldsIn s))
-    (λ e. rw (close-fields s, closing-fields s, eqb-true b 44 e))
+    by-cond (λ (fs : List (List ℕ)). closing fs ≡ b ∷ (s ++ crLf)) (eqb b comma) ([] ∷ fieldsIn s) (intoFirst b (fieldsIn s))
+    (λ e. rw (close-fields s, closing-fields s, eqb-true b comma e))
     (λ e. closing-into b (fieldsIn s) (close-fields s) ∙ ap (λ (t : List ℕ). b ∷ t) (closing-fields s))
 
-written-closing : (fs : List (List ℕ)) → closeOf fs ≡ 44 → closing fs ≡ written fs
+written-closing : (fs : List (List ℕ)) → closeOf fs ≡ comma → closing fs ≡ written fs
 written-closing [] h = absurd (omega arith)
 written-closing (f ∷ fs) h = closing-written f fs
 
@@ -132,8 +132,8 @@ module _ (ws s : List ℕ) (h : rightShape ws s ≡ true) where
 
 -- ---- what is put together from fields that fit is of right shape, and its numbers come back
 
-digit-no-comma : (d : ℕ) → isDigit d ≡ true → eqb d 44 ≡ false
-digit-no-comma d h = ne-eqb d 44 (λ e. let k = leb-true 48 d (both-true (leb 48 d) (leb d 57) h .0) in omega arith)
+digit-no-comma : (d : ℕ) → isDigit d ≡ true → eqb d comma ≡ false
+digit-no-comma d h = ne-eqb d comma (λ e. let k = leb-true 48 d (both-true (leb 48 d) (leb d 57) h .0) in omega arith)
 
 fields-one : (f : List ℕ) → allDigits f ≡ true → fieldsIn f ≡ f ∷ []
 unfolding allDigits fieldsIn
@@ -141,7 +141,7 @@ fields-one [] h = refl
 fields-one (d ∷ f) h =
     rw (digit-no-comma d (both-true (isDigit d) (allDigits f) h .0), fields-one f (both-true (isDigit d) (allDigits f) h .1))
 
-fields-more : (f s : List ℕ) → allDigits f ≡ true → fieldsIn (f ++ 44 ∷ s) ≡ f ∷ fieldsIn s
+fields-more : (f s : List ℕ) → allDigits f ≡ true → fieldsIn (f ++ comma ∷ s) ≡ f ∷ fieldsIn s
 unfolding allDigits fieldsIn
 fields-more [] s h = refl
 fields-more (d ∷ f) s h =
@@ -209,7 +209,7 @@ closer-close (w ∷ ws) (f ∷ fs) h = refl
 field-back : (w : ℕ) (ws f : List ℕ) (fs : List (List ℕ)) → fitsIn (w ∷ ws) (f ∷ fs) ≡ true → leading w (f ++ closeOf fs ∷ closing fs) ≡ f
 field-back w ws f fs h = leading-back w f (closeOf fs) (closing fs) (fit-digits w ws f fs h) (close-none fs) (fit-width w ws f fs h)
 
-lf-right : isLf (10 ∷ []) ≡ true
+lf-right : isLf (lf ∷ []) ≡ true
 unfolding isLf
 lf-right = refl
 
@@ -279,7 +279,7 @@ scan-closing (w ∷ ws) s h =
     let c : getD s (length (leading w s)) 0 ≡ closeOf (found ws (drop (length (leading w s) + 1) s)) = field-closed w ws s h ∙ closer-found ws (drop (length (leading w s) + 1) s) in
     sym (lead-split w s) ∙ ap (λ (t : List ℕ). leading w s ++ t) (drop-cons s (length (leading w s)) 0 m ∙ cc)
 
-found-some : (w : ℕ) (ws s : List ℕ) → closeOf (found (w ∷ ws) s) ≡ 44
+found-some : (w : ℕ) (ws s : List ℕ) → closeOf (found (w ∷ ws) s) ≡ comma
 unfolding found
 found-some w ws s = refl
 

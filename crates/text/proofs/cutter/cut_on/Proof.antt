@@ -5,6 +5,7 @@ use Prim.Native.Nat.{_-_}
 use native.Mathlib.Omega.{arith}
 use lib.ListN.{length}
 use borrow.Author.Needs.{needs}
+use Rattle.text.specs.declared.cutter.Cutter.{Cutter}
 use Rattle.text.proofs.CutTurns.{CutTurn, turn-end, turn-on, turn-done}
 use Rattle.text.proofs.cutter.cut_on.Statement.{statement}
 use Rattle.text.proofs.cutter.cut_on.Tie as tie
@@ -17,7 +18,7 @@ abbrev μ-loop : tie.MeasureT-loop
 μ-loop portion from limit closer held₀ n₀ i₀ held n i = length portion - i
 
 loop-holds : tie.Need-loop-holds Inv-loop μ-loop
-loop-holds c = record { short = search needs; room = search needs; same = refl }
+loop-holds c = record { short = search needs; fits = search needs; room = search needs; same = refl }
 
 shared-slice-read-b : tie.Need-shared-slice-read-b Inv-loop μ-loop
 shared-slice-read-b c = search needs
@@ -45,7 +46,10 @@ loop-again c =
     let a = c .before .before .before .before .before .before .before .before .before .before .args in
     let l = c .before .before .before .before .before .before .before .loop in
     let k = c .before .before .before .cut-byte in
-    turn-on (a .closer) (a .limit) (a .cutter) (a .portion .now) (a .from) (record { held = l .held; count = l .n }) (l .i) (l .inv) (c .before .before .before .before .before .before .loop-test .taken) (c .before .before .before .before .before .before .before .before .before .before .pre .1) (k .last .0) (k .result) (k .ensures) (sym (c .before .goes-on .ensures) ∙ c .if1 .taken)
+    let here : Cutter = record { held = l .held; count = l .n } in
+    let more = c .before .before .before .before .before .before .loop-test .taken in
+    let on = sym (c .before .goes-on .ensures) ∙ c .if1 .taken in
+    turn-on (a .closer) (a .limit) (a .cutter) (a .portion .now) (a .from) here (l .i) (l .inv) more (k .last .0) (k .result) (k .ensures) on
 
 piece-requires : tie.Need-piece-requires Inv-loop μ-loop
 piece-requires c κs = search needs
@@ -55,7 +59,10 @@ returns c =
     let a = c .before .before .before .before .before .before .before .before .before .before .before .args in
     let l = c .before .before .before .before .before .before .before .before .loop in
     let k = c .before .before .before .before .cut-byte in
-    c .piece .ensures ∙ turn-done (a .closer) (a .limit) (a .cutter) (a .portion .now) (a .from) (record { held = l .held; count = l .n }) (l .i) (l .inv) (c .before .before .before .before .before .before .before .loop-test .taken) (c .before .before .before .before .before .before .before .before .before .before .before .pre .1) (k .last .0) (k .result) (k .ensures) (sym (c .before .before .goes-on .ensures) ∙ c .before .if1 .left)
+    let here : Cutter = record { held = l .held; count = l .n } in
+    let more = c .before .before .before .before .before .before .before .loop-test .taken in
+    let done = sym (c .before .before .goes-on .ensures) ∙ c .before .if1 .left in
+    c .piece .ensures ∙ turn-done (a .closer) (a .limit) (a .cutter) (a .portion .now) (a .from) here (l .i) (l .inv) more (k .last .0) (k .result) (k .ensures) done
 
 piece-requires-2 : tie.Need-piece-requires-2 Inv-loop μ-loop
 piece-requires-2 c κs = search needs
@@ -64,7 +71,8 @@ returns-2 : tie.Need-returns-2 Inv-loop μ-loop
 returns-2 c =
     let a = c .before .before .before .before .before .args in
     let l = c .before .before .loop in
-    c .piece2 .ensures ∙ turn-end (a .closer) (a .limit) (a .cutter) (a .portion .now) (a .from) (record { held = l .held; count = l .n }) (l .i) (l .inv) (omega (arith, c .before .loop-test .left))
+    let here : Cutter = record { held = l .held; count = l .n } in
+    c .piece2 .ensures ∙ turn-end (a .closer) (a .limit) (a .cutter) (a .portion .now) (a .from) here (l .i) (l .inv) (omega (arith, c .before .loop-test .left))
 
 pub cut-on-spec : {M : Type 1} → statement M
 cut-on-spec =

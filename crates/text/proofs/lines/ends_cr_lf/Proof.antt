@@ -8,7 +8,7 @@ use native.Mathlib.Omega.{arith}
 use lib.Dec.{eqb}
 use lib.ListN.{getD, take}
 use borrow.Author.Tests.{eq-eqb, ne-eqb}
-use Rattle.text.specs.Line.{endsCrLf}
+use Rattle.text.specs.Line.{cr, lf, endsCrLf}
 use Rattle.text.proofs.CutLaws.{cr-lf-first, cr-lf-at}
 use borrow.Author.Needs.{needs}
 use Rattle.text.proofs.lines.ends_cr_lf.Statement.{statement}
@@ -22,7 +22,7 @@ returns c =
 returns-2 : tie.Need-returns-2
 returns-2 c =
     let a = c .before .before .args in
-    sym (cr-lf-at (a .b) (a .n) (a .held .now) (c .before .if1 .left) (omega arith) ∙ rw (ne-eqb (a .b) 10 (c .if2 .taken)) (and-false (eqb (getD (a .held .now) (a .n - 1) 0) 13)))
+    sym (cr-lf-at (a .b) (a .n) (a .held .now) (c .before .if1 .left) (omega arith) ∙ rw (ne-eqb (a .b) lf (c .if2 .taken)) (and-false (eqb (getD (a .held .now) (a .n - 1) 0) cr)))
 
 sub-k : tie.Need-sub-k
 sub-k c = search needs
@@ -33,7 +33,7 @@ shared-slice-read-result c = search needs
 returns-3 : tie.Need-returns-3
 returns-3 c =
     let a = c .before .before .before .args in
-    sym (cr-lf-at (a .b) (a .n) (a .held .now) (c .before .before .if1 .left) (omega arith) ∙ rw (eq-eqb (a .b) 10 (c .before .if2 .left)) (and-true (eqb (getD (a .held .now) (a .n - 1) 0) 13)))
+    sym (cr-lf-at (a .b) (a .n) (a .held .now) (c .before .before .if1 .left) (omega arith) ∙ rw (eq-eqb (a .b) lf (c .before .if2 .left)) (and-true (eqb (getD (a .held .now) (a .n - 1) 0) cr)))
 
 pub ends-cr-lf-spec : {M : Type 1} → statement M
 ends-cr-lf-spec = tie.close (tie.spec returns returns-2 sub-k shared-slice-read-result returns-3)
