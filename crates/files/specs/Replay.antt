@@ -7,11 +7,8 @@ use Prim.Native.Nat.{ℕ, _+_}
 use lib.Dec.{eqb, leb, ltb}
 use lib.ListN.{length}
 use Rattle.text.specs.declared.lines.Closer.the-variants.{CrLf}
-use Rattle.text.specs.declared.lines.Cut.{Cut}
-use Rattle.text.specs.declared.lines.Cut.the-variants.{Held, Closed, TooLong}
-use Rattle.text.specs.declared.cutter.Cutter.{Cutter}
-use Rattle.text.specs.Lines.{linesOf, cutOf}
-use Rattle.text.specs.Cutter.{emptyCutter, heldLine, holding, emptied}
+use Rattle.text.specs.Lines.{linesOf, Cutting, cutting}
+use Rattle.text.specs.Cutter.{emptyCutter, heldLine, cutterAfter}
 use Rattle.files.specs.declared.progress.Stage.{Stage}
 use Rattle.files.specs.declared.progress.Stage.the-variants.{Opening, Running, Stopped}
 use Rattle.files.specs.declared.progress.Progress.{Progress}
@@ -43,37 +40,35 @@ lineLimit = longestLine + 1
 abbrev pub freshReplay : Replay
 freshReplay = record { progress = freshProgress; cutter = emptyCutter }
 
--- ---- one byte more: it closes the line, or makes it too long, or is held
+-- ---- a portion: the lines that it closes, one after the other, and the line that it leaves begun
 
-abbrev pub nextCut : Replay → ℕ → Cut
-nextCut r b = cutOf CrLf lineLimit (heldLine (r .cutter) ++ (b ∷ []))
+unfoldable pub afterLines : Progress → List (List ℕ) → Progress
+afterLines p [] = p
+afterLines p (l ∷ ls) = afterLines (afterLine p l) ls
 
--- by what the byte did, and the cutter that holds it
-unfoldable pub afterCut : Cut → Progress → Cutter → Replay
-afterCut Closed p c = record { progress = afterLine p (heldLine c); cutter = emptied c }
-afterCut TooLong p c = record { progress = refuse p; cutter = emptied c }
-afterCut Held p c = record { progress = p; cutter = c }
+unfoldable pub wroteLines : Progress → List (List ℕ) → List ℕ
+wroteLines p [] = []
+wroteLines p (l ∷ ls) = wroteLine p l ++ wroteLines (afterLine p l) ls
 
-unfoldable pub wroteCut : Cut → Progress → Cutter → List ℕ
-wroteCut Closed p c = wroteLine p (heldLine c)
-wroteCut TooLong p c = []
-wroteCut Held p c = []
+-- a line that is too long, or that the end of the input leaves open, is of wrong shape
+unfoldable pub refuseIf : Bool → Progress → Progress
+refuseIf true p = refuse p
+refuseIf false p = p
 
-abbrev pub fedByte : Replay → ℕ → Replay
-fedByte r b = afterCut (nextCut r b) (r .progress) (holding (r .cutter) (b ∷ []))
+abbrev pub cutPortion : Replay → List ℕ → Cutting
+cutPortion r s = cutting CrLf lineLimit (heldLine (r .cutter)) s
 
-abbrev pub wroteByte : Replay → ℕ → List ℕ
-wroteByte r b = wroteCut (nextCut r b) (r .progress) (holding (r .cutter) (b ∷ []))
-
--- ---- a portion: the state after it, and what it writes
+abbrev pub fedCut : Replay → List ℕ → Cutting → Replay
+fedCut r s x = record {
+  progress = refuseIf (x .tooLong) (afterLines (r .progress) (x .lines));
+  cutter = cutterAfter x (r .cutter) s;
+}
 
 unfoldable pub fed : Replay → List ℕ → Replay
-fed r [] = r
-fed r (b ∷ s) = fed (fedByte r b) s
+fed r s = fedCut r s (cutPortion r s)
 
 unfoldable pub writes : Replay → List ℕ → List ℕ
-writes r [] = []
-writes r (b ∷ s) = wroteByte r b ++ writes (fedByte r b) s
+writes r s = wroteLines (r .progress) (cutPortion r s .lines)
 
 -- the room that a portion's output needs at most, by the bytes held and read: no line writes more bytes than it has
 abbrev pub portionRoom : ℕ → ℕ → ℕ
@@ -103,13 +98,8 @@ feedWrites r s room = writesIf (takes (r .cutter .count) (length s) room) r s
 
 -- ---- the end of the input
 
--- a line that has begun and is not closed is of wrong shape
-unfoldable pub lastIf : Bool → Progress → Progress
-lastIf true p = p
-lastIf false p = refuse p
-
 abbrev pub lastProgress : Replay → Progress
-lastProgress r = lastIf (eqb (r .cutter .count) 0) (r .progress)
+lastProgress r = refuseIf (ltb 0 (r .cutter .count)) (r .progress)
 
 abbrev pub endsWith : Replay → List ℕ
 endsWith r = endOf (lastProgress r)

@@ -70,7 +70,7 @@ fn on_held(p: Progress, held: &[u8], n: usize, out: &mut [u8], at: usize) -> Not
     on_line(p, &held[..n], out, at)
 }
 
-// The bytes of a portion, piece by piece.
+// The bytes of a portion, line by line: what follows a line that is too long is not looked at.
 fn feed_bytes(state: Replay, portion: &[u8], out: &mut [u8]) -> Fed
     requires { ⌜ (state .cutter .count < lineLimit) × (portionRoom (state .cutter .count) (length (now portion)) ≤ length (now out)) ⌝ }
     ensures { λ r. ⌜ PortionFed state (now (portion .entry)) (now (out .entry)) (now (out .exit)) r ⌝ }
@@ -86,7 +86,7 @@ fn feed_bytes(state: Replay, portion: &[u8], out: &mut [u8]) -> Fed
         let cut = piece.cut;
         match cut {
             Cut::Held => {
-                continue;
+                return taken(progress, cutter, at);
             }
             Cut::Closed => {
                 let n = cutter.count;
@@ -94,14 +94,11 @@ fn feed_bytes(state: Replay, portion: &[u8], out: &mut [u8]) -> Fed
                 let after = t.progress;
                 progress = after;
                 at = t.written;
-                cutter.count = 0;
+                cutter = Cutter::empty();
                 continue;
             }
             Cut::TooLong => {
-                let after = refuse_shape(progress);
-                progress = after;
-                cutter.count = 0;
-                continue;
+                return taken(refuse_shape(progress), Cutter::empty(), at);
             }
         }
     }

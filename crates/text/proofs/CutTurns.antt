@@ -14,8 +14,8 @@ use Rattle.text.specs.declared.lines.Cut.{Cut}
 use Rattle.text.specs.declared.lines.Cut.the-variants.{Held, Closed, TooLong}
 use Rattle.text.specs.declared.cutter.Cutter.{Cutter}
 use Rattle.text.specs.Lines.{cutOf}
-use Rattle.text.specs.Cutter.{Piece, pieceBy, pieceOf, goesOn, heldRoom, heldLine, cutFrom, pieceFrom}
-use Rattle.text.specs.device.Calls.{ByteCut, pieceWith}
+use Rattle.text.specs.Cutter.{Piece, pieceBy, pieceOf, heldRoom, heldLine, cutFrom, pieceFrom}
+use Rattle.text.specs.device.Calls.{ByteCut, goesOn, pieceWith}
 use Rattle.text.proofs.CutLaws.{next-length, held-not-full}
 
 pub record CutTurn (closer : Closer) (limit : ℕ) (first : Cutter) (p : List ℕ) (from : ℕ) (c : Cutter) (i : ℕ) : Type 0 where

@@ -7,30 +7,47 @@ use mathlib.Core.List.{List, [], _∷_, _++_, append-nil, append-assoc}
 use Prim.Native.Nat.{ℕ, _+_, _<_}
 use native.Mathlib.Omega.{arith}
 use lib.ListN.{length, take, length-append}
-use lib.Seq.{take-length, take-take, take-append-seam}
+use lib.Seq.{take-length, take-take, take-append-seam, append-snoc}
 use Rattle.text.specs.declared.lines.Closer.{Closer}
+use Rattle.text.specs.declared.lines.Closer.the-variants.{CrLf, Lf}
 use Rattle.text.specs.declared.lines.Cut.{Cut}
-use Rattle.text.specs.Lines.{closedBy, lastLine, linesFrom, linesOf, Cutting, oneMore, cuttingBy, cutSoFar, cutting, joined}
+use Rattle.text.specs.Lines.{endsLf, closedBy, lastLine, linesFrom, linesOf, Cutting, oneMore, cuttingBy, cutSoFar, cutting, joined}
 use Rattle.text.proofs.Cases.{by-cond}
+use Rattle.text.proofs.ShapeLaws.{ends-nothing}
 use Rattle.text.proofs.CutLaws.{by-cut, lines-cons, lines-nil, last-line, joined-none, joined-more}
+
+pub nothing-closed : (closer : Closer) → closedBy closer [] ≡ false
+unfolding endsLf
+nothing-closed CrLf = ends-nothing
+nothing-closed Lf = refl
+
+not-nothing : {l : List ℕ} {ls : List (List ℕ)} → _≡_ {A = List (List ℕ)} (l ∷ ls) [] → ⊥
+not-nothing e = let z : _≡_ {A = ℕ} 1 0 = cc in omega arith
 
 module _ (closer : Closer) (limit : ℕ) where
   -- ---- the lines of the whole
 
-  cut-lines : (line s : List ℕ) → let c : Cutting = cutting closer limit line s in linesFrom closer line s ≡ c .lines ++ linesFrom closer (c .held) (c .unread)
+  -- with what comes after it, too
+  pub cut-lines : (line s t : List ℕ) → let c : Cutting = cutting closer limit line s in linesFrom closer line (s ++ t) ≡ c .lines ++ linesFrom closer (c .held) (c .unread ++ t)
   unfolding cutting
-  cut-lines line [] = refl
-  cut-lines line (b ∷ s) =
+  cut-lines line [] t = refl
+  cut-lines line (b ∷ s) t =
       let next = line ++ (b ∷ []) in
-      lines-cons closer line s b
+      lines-cons closer line (s ++ t) b
       ∙ by-cut closer limit next
-      (λ (k : Cut). let c : Cutting = cuttingBy k next s (cutting closer limit next s) (cutting closer limit [] s) in cond (closedBy closer next) (next ∷ linesFrom closer [] s) (linesFrom closer next s) ≡ c .lines ++ linesFrom closer (c .held) (c .unread))
-      (λ e. rw e (ap (λ (ls : List (List ℕ)). next ∷ ls) (cut-lines [] s)))
+      (λ (k : Cut).
+      let c : Cutting = cuttingBy k next s (cutting closer limit next s) (cutting closer limit [] s) in
+      cond (closedBy closer next) (next ∷ linesFrom closer [] (s ++ t)) (linesFrom closer next (s ++ t)) ≡ c .lines ++ linesFrom closer (c .held) (c .unread ++ t))
+      (λ e. rw e (ap (λ (ls : List (List ℕ)). next ∷ ls) (cut-lines [] s t)))
       (λ e n. rw e)
-      (λ e n. rw e (cut-lines next s))
+      (λ e n. rw e (cut-lines next s t))
 
   -- where no line was too long, nothing is left unread; where one was, it has as many bytes as the limit
-  by-end : (Ended : Cutting → Type 0) (line s : List ℕ) → ((l : List ℕ) → Ended (cutSoFar l)) → ((l u : List ℕ) → length l ≡ limit → Ended (record { lines = []; held = l; tooLong = true; unread = u })) → ((l : List ℕ) (c : Cutting) → Ended c → Ended (oneMore l c)) → Ended (cutting closer limit line s)
+  by-end : (Ended : Cutting → Type 0) (line s : List ℕ)
+      → ((l : List ℕ) → Ended (cutSoFar l))
+      → ((l u : List ℕ) → length l ≡ limit → Ended (record { lines = []; held = l; tooLong = true; unread = u }))
+      → ((l : List ℕ) (c : Cutting) → Ended c → Ended (oneMore l c))
+      → Ended (cutting closer limit line s)
   unfolding cutting
   by-end Ended line [] open-end long-end more = open-end line
   by-end Ended line (b ∷ s) open-end long-end more =
@@ -40,15 +57,50 @@ module _ (closer : Closer) (limit : ℕ) where
       (λ e n. long-end next s n)
       (λ e n. by-end Ended next s open-end long-end more)
 
-  all-read : (line s : List ℕ) → cutting closer limit line s .tooLong ≡ false → cutting closer limit line s .unread ≡ []
+  pub all-read : (line s : List ℕ) → cutting closer limit line s .tooLong ≡ false → cutting closer limit line s .unread ≡ []
   all-read line s =
       by-end (λ (c : Cutting). c .tooLong ≡ false → c .unread ≡ []) line s
       (λ l e. refl) (λ l u n e. absurd (false≢true (sym e))) (λ l c h. h)
 
-  long-held : (line s : List ℕ) → cutting closer limit line s .tooLong ≡ true → length (cutting closer limit line s .held) ≡ limit
+  pub long-held : (line s : List ℕ) → cutting closer limit line s .tooLong ≡ true → length (cutting closer limit line s .held) ≡ limit
   long-held line s =
       by-end (λ (c : Cutting). c .tooLong ≡ true → length (c .held) ≡ limit) line s
       (λ l e. absurd (false≢true e)) (λ l u n e. n) (λ l c h. h)
+
+  -- where no line was closed, and none too long, all of it is held
+  pub none-closed : (line s : List ℕ) → cutting closer limit line s .tooLong ≡ false → cutting closer limit line s .lines ≡ [] → cutting closer limit line s .held ≡ line ++ s
+  unfolding cutting
+  none-closed line [] e f = sym (append-nil line)
+  none-closed line (b ∷ s) e f =
+      let next = line ++ (b ∷ []) in
+      by-cut closer limit next
+      (λ (k : Cut).
+      let c : Cutting = cuttingBy k next s (cutting closer limit next s) (cutting closer limit [] s) in
+      c .tooLong ≡ false → c .lines ≡ [] → c .held ≡ line ++ (b ∷ s))
+      (λ t e f. absurd (not-nothing f))
+      (λ t n e f. absurd (false≢true (sym e)))
+      (λ t n e f. none-closed next s e f ∙ append-snoc line b s)
+      e f
+
+  -- what is held is no line, and shorter than the limit
+  pub record Open (line : List ℕ) : Type 0 where
+    pub short : length line < limit
+    pub unclosed : closedBy closer line ≡ false
+
+  pub held-open : (line s : List ℕ) → Open line → cutting closer limit line s .tooLong ≡ false → Open (cutting closer limit line s .held)
+  unfolding cutting
+  held-open line [] h e = h
+  held-open line (b ∷ s) h e =
+      let next = line ++ (b ∷ []) in
+      let n : length next ≡ length line + 1 = length-append line (b ∷ []) in
+      by-cut closer limit next
+      (λ (k : Cut).
+      let c : Cutting = cuttingBy k next s (cutting closer limit next s) (cutting closer limit [] s) in
+      c .tooLong ≡ false → Open (c .held))
+      (λ t e. held-open [] s (record { short = omega (arith, h .short); unclosed = nothing-closed closer }) e)
+      (λ t f e. absurd (false≢true (sym e)))
+      (λ t f e. held-open next s (record { short = omega (arith, h .short, n, f); unclosed = t }) e)
+      e
 
   -- ---- portions
 
@@ -117,9 +169,10 @@ module _ (closer : Closer) (limit : ℕ) where
   cuts-all : (s : List ℕ) → CutsAll s (cutting closer limit [] s)
   cuts-all s =
       let c = cutting closer limit [] s in
+      let lines-whole : linesOf closer s ≡ c .lines ++ linesFrom closer (c .held) (c .unread) = rw (append-nil s, append-nil (c .unread)) at (cut-lines [] s []) in
       record {
-        whole = λ e. cut-lines [] s ∙ rw (all-read [] s e, lines-nil closer (c .held));
-        before-long = λ e. cut-lines [] s;
+        whole = λ e. lines-whole ∙ rw (all-read [] s e, lines-nil closer (c .held));
+        before-long = λ e. lines-whole;
         seen = λ e h.
             let n = long-held [] s e in
             ap (λ (k : ℕ). take k (firstLine (linesFrom closer (c .held) (c .unread)))) (sym n) ∙ first-begins (c .held) (c .unread) (omega arith);

@@ -11,3 +11,4 @@ pub mod CutLaws
 pub mod CuttingLaws
 pub mod PieceLaws
 pub mod CutTurns
+pub mod KeptLaws

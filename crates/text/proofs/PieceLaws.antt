@@ -4,20 +4,24 @@ use mathlib.Core.Path.{_≡_, refl, sym, ap, _∙_}
 use mathlib.Core.List.{List, [], _∷_, _++_, append-nil}
 use Prim.Native.Nat.{ℕ, _+_, _≤_, _<_}
 use native.Mathlib.Omega.{arith}
-use lib.Dec.{ltb}
 use lib.ListN.{length, take, drop, length-append, length-take, length-drop, take-append-drop}
 use lib.Seq.{sets-eq, length-sets, take-at, append-snoc, drop-drop}
-use borrow.Author.Tests.{ltb-true, ltb-false, lt-ltb, le-ltb}
+use borrow.Author.Tests.{lt-ltb, le-ltb}
 use Rattle.text.specs.declared.lines.Closer.{Closer}
 use Rattle.text.specs.declared.lines.Cut.{Cut}
-use Rattle.text.specs.declared.lines.Cut.the-variants.{Held, TooLong}
+use Rattle.text.specs.declared.lines.Cut.the-variants.{Held, Closed, TooLong}
 use Rattle.text.specs.declared.cutter.Cutter.{Cutter}
 use Rattle.text.specs.declared.cutter.PieceCut.{PieceCut}
 use Rattle.text.specs.Lines.{cuttingBy, cutSoFar, cutting}
 use Rattle.text.specs.Cutter.{Piece, pieceBy, pieceOf, heldRoom, heldLine, holding, limitOf, cutFrom, pieceFrom, pieceIf, pieceAnswer}
-use Rattle.text.proofs.Cases.{by-cond}
 use Rattle.text.proofs.StoreLaws.{sets-append}
 use Rattle.text.proofs.CutLaws.{by-cut}
+
+closed-not-held : Closed ≡ Held → ⊥
+closed-not-held t = let z : _≡_ {A = ℕ} 0 1 = cc in omega arith
+
+long-not-held : TooLong ≡ Held → ⊥
+long-not-held t = let z : _≡_ {A = ℕ} 0 1 = cc in omega arith
 
 -- ---- a piece of a stream
 
@@ -27,17 +31,18 @@ pub record IsPiece (limit : ℕ) (line s : List ℕ) (x : Piece) : Type 0 where
   pub some : 0 < length s → 0 < length (x .bytes)
   pub within : length line + length (x .bytes) ≤ limit
   pub short : x .cut ≡ Held → length line + length (x .bytes) < limit
+  pub all : x .cut ≡ Held → x .bytes ≡ s
 
 module _ (closer : Closer) (limit : ℕ) where
   pub is-piece : (line s : List ℕ) → length line < limit → IsPiece limit line s (pieceOf closer limit line s)
   unfolding pieceOf
-  is-piece line [] h = record { front = refl; some = λ k. k; within = omega arith; short = λ e. omega arith }
+  is-piece line [] h = record { front = refl; some = λ k. k; within = omega arith; short = λ e. omega arith; all = λ e. refl }
   is-piece line (b ∷ s) h =
       let next = line ++ (b ∷ []) in
       let n : length next ≡ length line + 1 = length-append line (b ∷ []) in
       by-cut closer limit next (λ (k : Cut). IsPiece limit line (b ∷ s) (pieceBy k b (pieceOf closer limit next s)))
-      (λ e. record { front = refl; some = λ k. omega arith; within = omega arith; short = λ t. let z : _≡_ {A = ℕ} 0 1 = cc in absurd (omega arith) })
-      (λ e f. record { front = refl; some = λ k. omega arith; within = omega arith; short = λ t. let z : _≡_ {A = ℕ} 0 1 = cc in absurd (omega arith) })
+      (λ e. record { front = refl; some = λ k. omega arith; within = omega arith; short = λ t. absurd (closed-not-held t); all = λ t. absurd (closed-not-held t) })
+      (λ e f. record { front = refl; some = λ k. omega arith; within = omega arith; short = λ t. absurd (long-not-held t); all = λ t. absurd (long-not-held t) })
       (λ e f.
       let more = is-piece next s (omega (arith, f, n)) in
       record {
@@ -45,6 +50,7 @@ module _ (closer : Closer) (limit : ℕ) where
         some = λ k. omega arith;
         within = omega (arith, more .within, n);
         short = λ t. omega (arith, more .short t, n);
+        all = λ t. ap (λ (l : List ℕ). b ∷ l) (more .all t);
       })
 
   -- the cutting of a stream, piece by piece
@@ -78,16 +84,6 @@ holding-on c xs ys =
 
 -- ---- what a cutter answers, by its line
 
-pub limit-fits : (limit : ℕ) → limitOf limit ≤ heldRoom
-limit-fits limit =
-    by-cond (λ (n : ℕ). n ≤ heldRoom) (ltb limit heldRoom) limit heldRoom
-    (λ e. omega (arith, ltb-true limit heldRoom e)) (λ e. omega arith)
-
-pub limit-same : (limit : ℕ) → limit ≤ heldRoom → limitOf limit ≡ limit
-limit-same limit h =
-    by-cond (λ (n : ℕ). n ≡ limit) (ltb limit heldRoom) limit heldRoom
-    (λ e. refl) (λ e. omega (arith, ltb-false limit heldRoom e))
-
 module _ (closer : Closer) (limit : ℕ) (c : Cutter) (p : List ℕ) (from : ℕ) where
   pub answer-short : c .count < limitOf limit → pieceAnswer closer limit c p from ≡ pieceFrom closer (limitOf limit) c p from
   unfolding pieceIf
@@ -106,6 +102,7 @@ pub record PieceTaken (closer : Closer) (limit : ℕ) (c : Cutter) (p : List ℕ
   pub room : length (r .cutter .held) ≡ heldRoom
   pub fits : r .cutter .count ≤ limit
   pub short : r .cut ≡ Held → r .cutter .count < limit
+  pub all : r .cut ≡ Held → r .cutter ≡ holding c (drop from p)
   pub counted : r .cutter .count + from ≡ c .count + r .next
   pub farther : from < length p → from < r .next
   pub within : from < length p → r .next ≤ length p
@@ -117,7 +114,7 @@ module _ (closer : Closer) (limit : ℕ) (c : Cutter) (p : List ℕ) (from : ℕ
 
   cut-from : r ≡ cutFrom c from piece
   cut-from =
-      let same = limit-same limit fits in
+      let same : limitOf limit ≡ limit = omega arith in
       e ∙ answer-short closer limit c p from (omega (arith, short, same)) ∙ ap (λ (n : ℕ). pieceFrom closer n c p from) same
 
   held-length : length (heldLine c) ≡ c .count
@@ -139,6 +136,7 @@ module _ (closer : Closer) (limit : ℕ) (c : Cutter) (p : List ℕ) (from : ℕ
         room = ap (λ (x : PieceCut). length (x .cutter .held)) cut-from ∙ length-sets (c .held) (c .count) (piece .bytes) ∙ room;
         fits = omega (arith, count, held-length, cut-piece .within);
         short = λ told. omega (arith, count, held-length, cut-piece .short (sym (ap (λ (x : PieceCut). x .cut) cut-from) ∙ told));
+        all = λ told. ap (λ (x : PieceCut). x .cutter) cut-from ∙ ap (holding c) (cut-piece .all (sym (ap (λ (x : PieceCut). x .cut) cut-from) ∙ told));
         counted = omega (arith, count, next);
         farther = λ more. omega (arith, next, cut-piece .some (left more));
         within = λ more. omega (arith, next, front, more);

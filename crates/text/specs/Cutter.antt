@@ -1,7 +1,7 @@
 -- The cutter of a stream that comes in portions: it holds the line that has begun, and answers piece by piece.
-use mathlib.Core.Bool.{Bool, true, false, cond}
+use mathlib.Core.Bool.{Bool, true, false}
 use mathlib.Core.List.{List, [], _∷_, _++_}
-use Prim.Native.Nat.{ℕ, _+_}
+use Prim.Native.Nat.{ℕ, _+_, min}
 use lib.Dec.{ltb}
 use lib.ListN.{length, take, drop, replicate}
 use lib.Seq.{sets}
@@ -10,7 +10,7 @@ use Rattle.text.specs.declared.lines.Cut.{Cut}
 use Rattle.text.specs.declared.lines.Cut.the-variants.{Held, Closed, TooLong}
 use Rattle.text.specs.declared.cutter.Cutter.{Cutter}
 use Rattle.text.specs.declared.cutter.PieceCut.{PieceCut}
-use Rattle.text.specs.Lines.{cutOf}
+use Rattle.text.specs.Lines.{cutOf, Cutting}
 
 -- ---- a piece of a stream: its bytes up to and with the first that is not only held, and what that one did; Held where
 -- there is none
@@ -30,16 +30,15 @@ pieceOf closer limit line [] = record { cut = Held; bytes = [] }
 pieceOf closer limit line (b ∷ s) =
     pieceBy (cutOf closer limit (line ++ (b ∷ []))) b (pieceOf closer limit (line ++ (b ∷ [])) s)
 
-abbrev pub goesOn : Cut → Bool
-goesOn Held = true
-goesOn Closed = false
-goesOn TooLong = false
-
 -- ---- the line that has begun
 
--- the longest line of any client has 256 bytes, and one byte more tells that a line is too long
+-- the longest line of any client
+abbrev pub longestOfAll : ℕ
+longestOfAll = 256
+
+-- one byte more tells that a line is too long
 abbrev pub heldRoom : ℕ
-heldRoom = 257
+heldRoom = longestOfAll + 1
 
 abbrev pub emptyCutter : Cutter
 emptyCutter = record { held = replicate heldRoom 0; count = 0 }
@@ -51,15 +50,11 @@ heldLine c = take (c .count) (c .held)
 abbrev pub holding : Cutter → List ℕ → Cutter
 holding c bytes = record { held = sets (c .held) (c .count) bytes; count = c .count + length bytes }
 
--- its line was taken
-abbrev pub emptied : Cutter → Cutter
-emptied c = record { held = c .held; count = 0 }
-
 -- ---- one call
 
 -- no line is longer than the room
 abbrev pub limitOf : ℕ → ℕ
-limitOf limit = cond (ltb limit heldRoom) limit heldRoom
+limitOf limit = min limit heldRoom
 
 abbrev pub cutFrom : Cutter → ℕ → Piece → PieceCut
 cutFrom c from x = record { cut = x .cut; cutter = holding c (x .bytes); next = from + length (x .bytes) }
@@ -76,3 +71,15 @@ pieceIf false closer limit c portion from = record { cut = TooLong; cutter = c; 
 abbrev pub pieceAnswer : Closer → ℕ → Cutter → List ℕ → ℕ → PieceCut
 pieceAnswer closer limit c portion from =
     pieceIf (ltb (c .count) (limitOf limit)) closer (limitOf limit) c portion from
+
+-- ---- a portion
+
+-- what is held after a portion whose lines the client has taken: nothing, where one was too long; all of it, where none was
+-- closed; else what came after the last
+unfoldable pub heldAfter : Bool → List (List ℕ) → List ℕ → Cutter → List ℕ → Cutter
+heldAfter true ls held c portion = emptyCutter
+heldAfter false [] held c portion = holding c portion
+heldAfter false (l ∷ ls) held c portion = holding emptyCutter held
+
+abbrev pub cutterAfter : Cutting → Cutter → List ℕ → Cutter
+cutterAfter x c portion = heldAfter (x .tooLong) (x .lines) (x .held) c portion

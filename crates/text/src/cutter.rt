@@ -1,14 +1,17 @@
 // The cutter of a stream into lines, for a stream that comes in portions.
 ghost use mathlib.Core.Path.{_≡_};
 ghost use Prim.Native.Nat.{_≤_, _<_};
-ghost use Rattle.text.specs.Cutter.{heldRoom, limitOf, emptyCutter, goesOn, pieceAnswer, pieceFrom};
-ghost use Rattle.text.specs.device.Calls.{pieceWith};
+ghost use Rattle.text.specs.Cutter.{heldRoom, limitOf, emptyCutter, pieceAnswer, pieceFrom};
+ghost use Rattle.text.specs.device.Calls.{goesOn, pieceWith};
 use crate::lines::Closer;
 use crate::lines::Cut;
 use crate::lines::cut_byte;
 
-// The longest line of any client has 256 bytes, and one byte more tells that a line is too long.
-pub const HELD_ROOM: usize = 257;
+// The longest line of any client.
+pub const LONGEST_OF_ALL: usize = 256;
+
+// One byte more tells that a line is too long.
+pub const HELD_ROOM: usize = LONGEST_OF_ALL + 1;
 
 // The line that has begun: the first `count` bytes of `held`.
 pub struct Cutter {
@@ -78,7 +81,8 @@ impl Cutter {
     }
 
     // Goes on with the bytes of a portion from a place, to and with the first that is not only held. The cutter then holds the
-    // line that it closed or that is too long: the client takes it, and sets the count to 0.
+    // line that it closed or that is too long: the client takes it, and goes on with an empty one. A line is too long that has
+    // `limit` bytes, or as many as the room, and is not closed.
     pub fn cut(self, portion: &[u8], from: usize, limit: usize, closer: Closer) -> PieceCut
         ensures { λ r. ⌜ r ≡ pieceAnswer closer limit self (now (portion .entry)) from ⌝ }
     {

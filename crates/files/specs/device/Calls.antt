@@ -6,10 +6,9 @@ use mathlib.Core.List.{List}
 use Prim.Native.Nat.{ℕ, _+_, _≤_, _<_}
 use lib.ListN.{length}
 use lib.Seq.{sets}
-use Rattle.text.specs.Line.{endsCrLf}
+use Rattle.text.specs.declared.lines.Closer.the-variants.{CrLf}
 use Rattle.text.specs.declared.cutter.Cutter.{Cutter}
-use Rattle.text.specs.Cutter.{heldRoom, heldLine}
-use Rattle.text.specs.device.Calls.{Wrote}
+use Rattle.text.specs.device.Calls.{Wrote, Holds}
 use Rattle.files.specs.declared.progress.Progress.{Progress}
 use Rattle.files.specs.declared.progress.Noted.{Noted}
 use Rattle.files.specs.declared.replay.Replay.{Replay}
@@ -43,7 +42,5 @@ pub record PortionFed (r : Replay) (portion before after : List ℕ) (x : Fed) :
   pub within : x .written ≤ portionRoom (r .cutter .count) (length portion)
 
 -- the line held is shorter than a line too long, and is not closed
-pub record Sound (r : Replay) : Type 0 where
-  pub short : r .cutter .count < lineLimit
-  pub room : length (r .cutter .held) ≡ heldRoom
-  pub unclosed : endsCrLf (heldLine (r .cutter)) ≡ false
+abbrev pub Sound : Replay → Type 0
+Sound r = Holds CrLf lineLimit (r .cutter)

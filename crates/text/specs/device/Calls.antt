@@ -1,17 +1,20 @@
 -- A device of code and proofs: what the functions of the crate hand on, each fact by its name.
 use mathlib.Core.Path.{_≡_}
-use mathlib.Core.Bool.{true}
+use mathlib.Core.Bool.{Bool, true, false}
 use mathlib.Core.List.{List, [], _∷_, _++_}
-use Prim.Native.Nat.{ℕ, _+_, _≤_}
+use Prim.Native.Nat.{ℕ, _+_, _≤_, _<_}
 use lib.ListN.{length, take, drop, set}
 use lib.Seq.{sets}
 use Rattle.text.specs.declared.number.Digits.{Digits}
 use Rattle.text.specs.declared.lines.Closer.{Closer}
 use Rattle.text.specs.declared.lines.Cut.{Cut}
+use Rattle.text.specs.declared.lines.Cut.the-variants.{Held, Closed, TooLong}
+use Rattle.text.specs.declared.cutter.Cutter.{Cutter}
 use Rattle.text.specs.declared.cutter.PieceCut.{PieceCut}
 use Rattle.text.specs.Number.{leading, digitsFrom}
 use Rattle.text.specs.Line.{narrow, fieldLimit}
-use Rattle.text.specs.Lines.{cutOf}
+use Rattle.text.specs.Lines.{closedBy, cutOf}
+use Rattle.text.specs.Cutter.{heldRoom, heldLine}
 
 -- the digits that stand at a place of the text, at most `width` of them
 pub record DigitsFound (s : List ℕ) (at width : ℕ) (answer : Digits) : Type 0 where
@@ -34,6 +37,18 @@ pub record ByteCut (closer : Closer) (limit n b : ℕ) (before after : List ℕ)
   pub cut : answer ≡ cutOf closer limit (take n before ++ (b ∷ []))
   pub held : after ≡ set before n b
 
+-- whether a byte is only held
+abbrev pub goesOn : Cut → Bool
+goesOn Held = true
+goesOn Closed = false
+goesOn TooLong = false
+
 -- a piece was cut
 abbrev pub pieceWith : Cut → List ℕ → ℕ → ℕ → PieceCut
 pieceWith cut held count next = record { cut = cut; cutter = record { held = held; count = count }; next = next }
+
+-- a cutter that holds a line shorter than the limit and not closed, in its room
+pub record Holds (closer : Closer) (limit : ℕ) (c : Cutter) : Type 0 where
+  pub short : c .count < limit
+  pub room : length (c .held) ≡ heldRoom
+  pub unclosed : closedBy closer (heldLine c) ≡ false

@@ -2,26 +2,27 @@
 -- Assumes nothing.
 use mathlib.Core.Bool.{Bool}
 use mathlib.Core.Path.{sym, ap, _∙_}
+use native.Mathlib.Omega.{arith}
 use borrow.Author.Needs.{needs}
-use borrow.Author.Tests.{eq-eqb, ne-eqb}
-use Rattle.files.specs.Replay.{lastIf}
+use borrow.Author.Tests.{lt-ltb, le-ltb}
+use Rattle.files.specs.Replay.{refuseIf}
 use Rattle.files.proofs.replay.last_progress.Statement.{statement}
 use Rattle.files.proofs.replay.last_progress.Tie as tie
 
 returns : tie.Need-returns
-unfolding lastIf
+unfolding refuseIf
 returns c =
     let r = c .before .before .args .state in
-    ap (λ (t : Bool). lastIf t (r .progress)) (sym (eq-eqb (r .cutter .count) 0 (c .if1 .taken)))
+    ap (λ (t : Bool). refuseIf t (r .progress)) (sym (le-ltb 0 (r .cutter .count) (omega (arith, c .if1 .taken))))
 
 refuse-shape-requires : tie.Need-refuse-shape-requires
 refuse-shape-requires c κs = search needs
 
 returns-2 : tie.Need-returns-2
-unfolding lastIf
+unfolding refuseIf
 returns-2 c =
     let r = c .before .before .before .args .state in
-    c .refuse-shape .ensures ∙ ap (λ (t : Bool). lastIf t (r .progress)) (sym (ne-eqb (r .cutter .count) 0 (c .before .if1 .left)))
+    c .refuse-shape .ensures ∙ ap (λ (t : Bool). refuseIf t (r .progress)) (sym (lt-ltb 0 (r .cutter .count) (omega (arith, c .before .if1 .left))))
 
 pub last-progress-spec : {M : Type 1} → statement M
 last-progress-spec = tie.close (tie.spec returns refuse-shape-requires returns-2)

@@ -5,7 +5,7 @@ use Prim.Native.Nat.{ℕ, _≤_, _<_}
 use native.Mathlib.Omega.{arith}
 use borrow.Author.Needs.{needs}
 use Rattle.text.specs.Cutter.{limitOf, pieceFrom}
-use Rattle.text.proofs.PieceLaws.{limit-fits, answer-short, answer-full}
+use Rattle.text.proofs.PieceLaws.{answer-short, answer-full}
 use Rattle.text.proofs.cutter.Cutter.cut.Statement.{statement}
 use Rattle.text.proofs.cutter.Cutter.cut.Tie as tie
 
@@ -13,7 +13,7 @@ limit-of-requires : tie.Need-limit-of-requires
 limit-of-requires c κs = search needs
 
 cut-on-requires : tie.Need-cut-on-requires
-cut-on-requires c κs = (c .if1 .taken, rw (c .before .limit-of .ensures) (limit-fits (c .before .before .before .args .limit)))
+cut-on-requires c κs = (c .if1 .taken, omega (arith, c .before .limit-of .ensures))
 
 returns : tie.Need-returns
 returns c =
