@@ -2,7 +2,7 @@
 -- Assumes nothing.
 use mathlib.Core.Path.{_≡_, refl, sym, ap, _∙_}
 use mathlib.Core.Bool.{true}
-use mathlib.Core.List.{List, [], _∷_, _++_}
+use mathlib.Core.List.{List, [], _++_}
 use Prim.Native.Nat.{ℕ, _+_, _≤_, _<_}
 use native.Mathlib.Nat.{add-zero}
 use native.Mathlib.Omega.{arith}
@@ -15,7 +15,6 @@ use Rattle.text.specs.declared.cutter.Cutter.{Cutter}
 use Rattle.text.specs.declared.cutter.PieceCut.{PieceCut}
 use Rattle.text.specs.Lines.{Cutting, cuttingBy, cutSoFar, cutting}
 use Rattle.text.specs.Cutter.{heldRoom, emptyCutter, heldLine, heldAfter, pieceAnswer}
-use Rattle.files.specs.declared.progress.Progress.{Progress}
 use Rattle.files.specs.declared.progress.Noted.{Noted}
 use Rattle.files.specs.declared.replay.Replay.{Replay}
 use Rattle.files.specs.declared.replay.Fed.{Fed}

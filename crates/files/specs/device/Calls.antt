@@ -1,9 +1,9 @@
 -- A device of code and proofs: what the functions inside the crate hand on, and what every state keeps that comes from
 -- the fresh one.
 use mathlib.Core.Path.{_≡_}
-use mathlib.Core.Bool.{true, false}
+use mathlib.Core.Bool.{true}
 use mathlib.Core.List.{List}
-use Prim.Native.Nat.{ℕ, _+_, _≤_, _<_}
+use Prim.Native.Nat.{ℕ, _+_, _≤_}
 use lib.ListN.{length}
 use lib.Seq.{sets}
 use Rattle.text.specs.declared.lines.Closer.the-variants.{CrLf}
