@@ -8,7 +8,7 @@ use mathlib.Core.Logic.{_⊎_, inl, inr}
 use mathlib.Core.Path.{_≡_, refl, sym}
 use borrow.Author.Tests.{ltb-true}
 use lib.Dec.{ltb}
-use Rattle.checks.specs.Checks.{Check, check, lowest}
+use Rattle.checks.specs.Checks.{Check, lowest}
 use Rattle.checks.proofs.Tests.{both-true}
 
 -- the numbers rise, from above `last` on

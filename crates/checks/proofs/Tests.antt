@@ -1,12 +1,13 @@
 -- Tests on numbers: two joined, one for another, and a range.
 -- Assumes nothing.
 use Prim.Native.Nat.{ℕ, suc, _≤_, _<_}
-use native.Mathlib.Nat.{suc-ne-zero, lt-of-not-le, not-le-of-lt}
+use native.Mathlib.Nat.{suc-ne-zero}
 use mathlib.Core.Bool.{Bool, true, false, cond, _&&_, and-false, false≢true}
-use mathlib.Core.Path.{_≡_, refl, sym}
-use borrow.Author.Tests.{leb-true, leb-false, le-leb, lt-leb}
+use mathlib.Core.Path.{_≡_, refl}
+use borrow.Author.Tests.{leb-true, le-leb, lt-leb}
 use lib.Dec.{leb}
 use Rattle.checks.specs.Range.{inRange}
+use Rattle.checks.proofs.Cases.{same-test}
 
 pub both-true : (a b : Bool) → a && b ≡ true → (a ≡ true) × (b ≡ true)
 both-true true b e = (refl, e)
@@ -14,11 +15,8 @@ both-true false b e = absurd (false≢true e)
 
 -- a test is another test where each order gives the other
 pub leb-iff : (a b c d : ℕ) → (a ≤ b → c ≤ d) → (c ≤ d → a ≤ b) → leb a b ≡ leb c d
-leb-iff a b c d f g = go (leb a b) refl
-  where
-    go : (t : Bool) → leb a b ≡ t → t ≡ leb c d
-    go true q = sym (le-leb c d (f (leb-true a b q)))
-    go false q = sym (lt-leb c d (lt-of-not-le (λ e. not-le-of-lt (leb-false a b q) (g e))))
+leb-iff a b c d f g =
+    same-test (leb a b) (leb c d) (λ t. le-leb c d (f (leb-true a b t))) (λ t. le-leb a b (g (leb-true c d t)))
 
 -- a check that was passed, and what came after it
 pub passed : (b : Bool) (rest k : ℕ) → cond b rest (suc k) ≡ 0 → (b ≡ true) × (rest ≡ 0)

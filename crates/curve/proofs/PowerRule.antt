@@ -10,6 +10,7 @@ use mathlib.Core.Path.{_≡_, refl, sym, _∙_, ap}
 use borrow.Author.Tests.{leb-true, leb-false, le-leb, not-true}
 use lib.Dec.{lit≤, lit<}
 use lib.ListN.{length, getD}
+use Rattle.checks.proofs.Cases.{by-cond}
 use Rattle.checks.proofs.Tests.{both-true}
 use Rattle.curve.specs.Power.{Least, isEnough, firstEnough, X}
 use Rattle.curve.proofs.Tables.{everyEntry, entry-passes}
@@ -61,14 +62,11 @@ least-unique a b = le-antisymm (not-more a b) (not-more b a)
 
 -- ---- the search finds it
 
-kept-within : (b : Bool) (f n : ℕ) → f ≤ n → cond b f (suc n) ≤ suc n
-kept-within true f n h = omega arith
-kept-within false f n h = omega arith
-
 first-within : (m n : ℕ) → firstEnough m n ≤ n
 unfolding firstEnough
 first-within m zero = omega arith
-first-within m (suc n) = kept-within (isEnough m (firstEnough m n)) (firstEnough m n) n (first-within m n)
+first-within m (suc n) =
+    by-cond (λ x. x ≤ suc n) (isEnough m (firstEnough m n)) (firstEnough m n) (suc n) (λ t. omega (arith, first-within m n)) (λ t. omega arith)
 
 -- where the search ends on a number that is not enough, it went to its end
 ended : (m f n : ℕ) (b : Bool) → isEnough m f ≡ b → isEnough m (cond b f (suc n)) ≡ false → cond b f (suc n) ≡ suc n

@@ -17,7 +17,7 @@ use Rattle.text.specs.Lines.{linesFrom}
 use Rattle.files.specs.Refusals.{wrongShape}
 use Rattle.files.specs.Progress.{stopped, afterBy, wroteBy, afterLine, wroteLine, endOf, refuseBy, refuse}
 use Rattle.files.specs.Replay.{byLines, lineLimit}
-use Rattle.text.proofs.Cases.{by-cond, not-both, not-true}
+use Rattle.checks.proofs.Cases.{by-cond, not-both, not-true}
 use Rattle.text.proofs.ShapeLaws.{right-ends, shape-most}
 use Rattle.text.proofs.CutLaws.{lines-cons, lines-nil, last-line}
 

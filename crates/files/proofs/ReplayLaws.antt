@@ -18,7 +18,7 @@ use Rattle.text.specs.Lines.{linesOf}
 use Rattle.files.specs.Refusals.{wrongShape}
 use Rattle.files.specs.Progress.{freshProgress, stopped, opened, afterBy, wroteBy, endRefusal, endOf}
 use Rattle.files.specs.Replay.{byLines, replayOf}
-use Rattle.text.proofs.Cases.{by-cond}
+use Rattle.checks.proofs.Cases.{by-cond}
 use Rattle.files.proofs.SettingsLineLaws.{settings-refused}
 use Rattle.files.proofs.RefusedLaws.{Misshapen, open-misshapen, stopped-ends}
 use Rattle.text.proofs.CutLaws.{lines-nil, last-nothing, last-line}

@@ -19,7 +19,7 @@ use Rattle.relay.specs.Refusals.{wrongBlock}
 use Rattle.files.specs.Refusals.{wrongShape, wrongNumber}
 use Rattle.files.specs.Output.{changeRoom}
 use Rattle.files.specs.Row.{lastRow, rowWidths, rowOf, rowRefusal, rowAnswer, rowNumber}
-use Rattle.text.proofs.Cases.{by-cond}
+use Rattle.checks.proofs.Cases.{by-cond}
 use Rattle.files.proofs.AnswerNumbers.{answer-number}
 use Rattle.text.proofs.DecimalLaws.{decimal-back}
 use Rattle.text.proofs.ShapeLaws.{shape-least, number-below, fits-none, fits-decimal, written-right, written-numbers}

@@ -1,13 +1,14 @@
 -- The first of n equal ticks with the phase trip on, in closed form.
 -- Assumes nothing.
 use Prim.Native.Nat.{ℕ, zero, suc, _+_, _-_, _*_, _≤_, _<_, min, max}
-use native.Mathlib.Nat.{suc-mul, div-lt-iff-lt-mul, div-zero, mul-zero, lt-of-not-le, not-le-of-lt}
+use native.Mathlib.Nat.{suc-mul, div-lt-iff-lt-mul, div-zero, mul-zero}
 use native.Mathlib.Omega.{arith}
 use mathlib.Core.Bool.{Bool, true, false, cond, _&&_}
-use mathlib.Core.Path.{_≡_, refl, ap, sym, _∙_}
-use borrow.Author.Tests.{leb-true, leb-false, lt-leb, ltb-true, ltb-false}
+use mathlib.Core.Path.{_≡_, refl, ap, _∙_}
+use borrow.Author.Tests.{leb-true, le-leb, lt-leb, ltb-true, ltb-false}
 use lib.Dec.{leb, ltb, eqb, eqb·suc-zero}
-use Rattle.checks.proofs.Tests.{leb-iff}
+use Rattle.checks.proofs.Cases.{same-test}
+use Rattle.checks.proofs.Tests.{both-true, leb-iff}
 use Rattle.phase.specs.declared.operation.Kind.{Kind}
 use Rattle.phase.specs.declared.operation.Kind.the-variants.{Off, On}
 use Rattle.phase.specs.declared.operation.Timing.{Timing}
@@ -28,11 +29,10 @@ use Rattle.phase.proofs.Walk.{started-stays, ticks-closed}
 
 -- two tests joined are one test
 both-iff : (a b c d m k : ℕ) → (a ≤ b → c ≤ d → m ≤ k) → (m ≤ k → a ≤ b) → (m ≤ k → c ≤ d) → leb a b && leb c d ≡ leb m k
-both-iff a b c d m k f g h = go (leb a b) refl
-  where
-    go : (t : Bool) → leb a b ≡ t → t && leb c d ≡ leb m k
-    go true q = leb-iff c d m k (λ e. f (leb-true a b q) e) h
-    go false q = sym (lt-leb m k (lt-of-not-le (λ e. not-le-of-lt (leb-false a b q) (g e))))
+both-iff a b c d m k f g h =
+    same-test (leb a b && leb c d) (leb m k)
+    (λ t. let (p, q) = both-true (leb a b) (leb c d) t in le-leb m k (f (leb-true a b p) (leb-true c d q)))
+    (λ t. let e = leb-true m k t in rw (le-leb a b (g e), le-leb c d (h e)))
 
 -- ---- from which tick on a sum is full
 

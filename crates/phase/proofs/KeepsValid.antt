@@ -2,11 +2,12 @@
 -- Assumes nothing.
 use Prim.Native.Nat.{ℕ, zero, suc, _≤_}
 use native.Mathlib.Omega.{arith}
-use mathlib.Core.Bool.{Bool, true, false, cond, _&&_, or-true}
+use mathlib.Core.Bool.{Bool, true, false, _&&_, or-true}
 use mathlib.Core.Logic.{_⊎_, inl, inr}
 use mathlib.Core.Path.{_≡_, refl}
 use borrow.Author.Tests.{leb-true, le-leb, eq-eqb}
 use lib.Dec.{leb, eqb}
+use Rattle.checks.proofs.Cases.{by-cond}
 use Rattle.checks.proofs.Tests.{both-true}
 use Rattle.phase.specs.declared.operation.Kind.{Kind}
 use Rattle.phase.specs.declared.operation.Kind.the-variants.{Off, On}
@@ -31,17 +32,14 @@ by-parts settings kind state s r d (inl e) f =
 by-parts settings kind state s r d (inr e) f =
     rw (le-leb (state .sum) (tripLevel settings) s, le-leb (state .run) runLimit r, le-leb (state .drop) runLimit d, eq-eqb (state .drop) 0 e, or-true (eqb (state .run) 0)) f
 
-cleared : (b : Bool) (sum level : ℕ) → sum ≤ level → cond b 0 sum ≤ level
-cleared true sum level h = omega arith
-cleared false sum level h = h
-
 -- the sum after a tick, by the group of operations
 sum-kept : (kind : Kind) (b : Bool) (settings : Settings) (g : ℕ) (state : PhaseState) → state .sum ≤ tripLevel settings → nextBy kind b settings g state .sum ≤ tripLevel settings
 sum-kept Off b settings g state h = omega arith
 sum-kept (On Definite) true settings g state h = omega arith
 sum-kept (On Definite) false settings g state h = omega arith
 sum-kept (On (Curve rule)) true settings g state h = omega arith
-sum-kept (On (Curve Iec)) false settings g state h = cleared (leb (settings .«reset_time») (countUp (state .drop))) (state .sum) (tripLevel settings) h
+sum-kept (On (Curve Iec)) false settings g state h =
+    by-cond (λ n. n ≤ tripLevel settings) (leb (settings .«reset_time») (countUp (state .drop))) 0 (state .sum) (λ t. omega arith) (λ t. h)
 sum-kept (On (Curve Ansi)) false settings g state h = omega arith
 
 -- a Definite phase has no sum after a tick either

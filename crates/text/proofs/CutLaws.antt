@@ -14,7 +14,7 @@ use Rattle.text.specs.declared.lines.Cut.{Cut}
 use Rattle.text.specs.declared.lines.Cut.the-variants.{Held, Closed, TooLong}
 use Rattle.text.specs.Line.{cr, lf, isLf, endsCrLf}
 use Rattle.text.specs.Lines.{endsLf, closedBy, lastLine, linesFrom, cutOf, joined}
-use Rattle.text.proofs.Cases.{by-cond}
+use Rattle.checks.proofs.Cases.{by-cond}
 use Rattle.text.proofs.ShapeLaws.{ends-two}
 
 -- ---- whether a byte closes the line of the n bytes held

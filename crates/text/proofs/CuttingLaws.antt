@@ -12,7 +12,7 @@ use Rattle.text.specs.declared.lines.Closer.{Closer}
 use Rattle.text.specs.declared.lines.Closer.the-variants.{CrLf, Lf}
 use Rattle.text.specs.declared.lines.Cut.{Cut}
 use Rattle.text.specs.Lines.{endsLf, closedBy, lastLine, linesFrom, linesOf, Cutting, oneMore, cuttingBy, cutSoFar, cutting, joined}
-use Rattle.text.proofs.Cases.{by-cond}
+use Rattle.checks.proofs.Cases.{by-cond}
 use Rattle.text.proofs.ShapeLaws.{ends-nothing}
 use Rattle.text.proofs.CutLaws.{by-cut, lines-cons, lines-nil, last-line, joined-none, joined-more}
 

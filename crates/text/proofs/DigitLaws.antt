@@ -11,7 +11,7 @@ use lib.Dec.{leb, lit<}
 use lib.ListN.{length, getD, drop}
 use lib.Seq.{drop-cons, drop-length}
 use borrow.Author.Tests.{le-leb, lt-leb, leb-true}
-use Rattle.text.proofs.Cases.{by-cond}
+use Rattle.checks.proofs.Cases.{by-cond}
 use Rattle.checks.proofs.Tests.{both-true}
 use Rattle.text.specs.declared.number.Digits.{Digits}
 use Rattle.text.specs.Number.{isDigit, leading, valueFrom, valueOf, digitsFrom}

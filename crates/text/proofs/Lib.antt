@@ -1,4 +1,3 @@
-pub mod Cases
 pub mod StoreLaws
 pub mod ByteLaws
 pub mod DigitLaws

@@ -9,7 +9,7 @@ use lib.ListN.{length, getD, replicate, List·getD-append}
 use lib.Seq.{sets-eq}
 use Rattle.text.specs.declared.line.Line.{Line}
 use Rattle.text.specs.Line.{fieldLimit, rightShape, numbersOf, placed, wrongLine, rightLine, lineAnswer}
-use Rattle.text.proofs.Cases.{by-cond}
+use Rattle.checks.proofs.Cases.{by-cond}
 use Rattle.text.proofs.ScanLaws.{scans, scanned}
 use Rattle.text.proofs.ShapeLaws.{scan-right, scan-numbers, number-below}
 

@@ -15,7 +15,7 @@ use Rattle.text.specs.Line.{cr, lf, comma, isLf, endsCrLf, body, crLf, f
 use Rattle.text.specs.declared.lines.Closer.{Closer}
 use Rattle.text.specs.declared.lines.Closer.the-variants.{CrLf}
 use Rattle.text.specs.Lines.{closedBy, lastLine, linesFrom, linesOf, joined}
-use Rattle.text.proofs.Cases.{by-cond, not-both}
+use Rattle.checks.proofs.Cases.{by-cond, not-both}
 use Rattle.checks.proofs.Tests.{both-true}
 use Rattle.text.proofs.ShapeLaws.{crlf-ends, right-fits, right-written, fit-digits, fit-rest, fit-none}
 

@@ -14,7 +14,7 @@ use lib.Seq.{sets, drop-cons, drop-length, drop-drop, getD-drop}
 use borrow.Author.Tests.{le-leb, leb-true, eq-eqb, ne-eqb, eqb-true, eqb-false}
 use Rattle.text.specs.Number.{leading, valueOf, digitLimit}
 use Rattle.text.specs.Line.{cr, lf, comma, isLf, narrow, fieldLimit, placed}
-use Rattle.text.proofs.Cases.{by-cond}
+use Rattle.checks.proofs.Cases.{by-cond}
 use Rattle.checks.proofs.Tests.{both-true}
 use Rattle.text.proofs.DigitLaws.{leading-length, value-small}
 

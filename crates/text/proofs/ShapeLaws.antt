@@ -13,7 +13,7 @@ use lib.Seq.{drop-cons, getD-append-seam, drop-append-add, take-append-seam}
 use borrow.Author.Tests.{leb-true, le-leb, eq-eqb, ne-eqb, eqb-true}
 use Rattle.text.specs.Number.{isDigit, allDigits, leading, decimal}
 use Rattle.text.specs.Line.{cr, lf, comma, isLf, endsCrLf, body, crLf, intoFirst, fieldsIn, fitsIn, rightShape, valuesOf, numbersOf, spelled, written}
-use Rattle.text.proofs.Cases.{by-cond, not-both, same-test}
+use Rattle.checks.proofs.Cases.{by-cond, not-both, same-test}
 use Rattle.checks.proofs.Tests.{both-true}
 use Rattle.text.proofs.DigitLaws.{leading-length}
 use Rattle.text.proofs.DecimalLaws.{leading-back, decimal-digits, decimal-some, decimal-short}

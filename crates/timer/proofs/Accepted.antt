@@ -8,6 +8,7 @@ use mathlib.Core.List.{List, [], _∷_}
 use mathlib.Core.Path.{_≡_, refl}
 use borrow.Author.Tests.{leb-true, le-leb}
 use lib.Dec.{leb, ltb}
+use Rattle.checks.proofs.Cases.{by-cond}
 use Rattle.timer.specs.Answer.{accepted, answered}
 use Rattle.timer.specs.Inputs.{inputOf}
 use Rattle.timer.specs.Refusals.{invalidTimer, delayTooLong}
@@ -46,20 +47,16 @@ byRule (hold input) d state = holdRule d input state
 byRule (resetDelay input) d state = resetDelayRule d input state
 byRule (flipFlop set trip) d state = flipFlopRule d set trip state
 
-by-cond : {A : Type 0} (P : A → Type 0) (b : Bool) {x y : A} → P x → P y → P (cond b x y)
-by-cond P true p q = p
-by-cond P false p q = q
-
 abbrev InLimit : Timed → Type 0
 InLimit timed = timed .state .count ≤ countLimit
 
 rule-in-limit : (rule : Rule) (d : ℕ) (state : TimerState) → state .count ≤ countLimit → d ≤ delayLimit
     → InLimit (byRule rule d state)
-rule-in-limit (setDelay input) d state h k = by-cond (λ n. n ≤ countLimit) input (omega arith) (omega arith)
+rule-in-limit (setDelay input) d state h k = by-cond (λ n. n ≤ countLimit) input _ _ (λ t. omega arith) (λ t. omega arith)
 rule-in-limit (hold input) d state h k =
-    by-cond InLimit (ltb 0 (state .count)) (omega arith) (by-cond InLimit (fires d input (state .previous)) (omega arith) h)
-rule-in-limit (resetDelay input) d state h k = by-cond InLimit input (omega arith) (omega arith)
-rule-in-limit (flipFlop set trip) d state h k = by-cond (λ n. n ≤ countLimit) set (omega arith) (omega arith)
+    by-cond InLimit (ltb 0 (state .count)) _ _ (λ t. omega arith) (λ t. by-cond InLimit (fires d input (state .previous)) _ _ (λ f. omega arith) (λ f. h))
+rule-in-limit (resetDelay input) d state h k = by-cond InLimit input _ _ (λ t. omega arith) (λ t. omega arith)
+rule-in-limit (flipFlop set trip) d state h k = by-cond (λ n. n ≤ countLimit) set _ _ (λ t. omega arith) (λ t. omega arith)
 
 pub rule-leaves-valid : (rule : Rule) (d : ℕ) (state : TimerState) → validTimer state ≡ true → leb d delayLimit ≡ true
     → validTimer (byRule rule d state .state) ≡ true

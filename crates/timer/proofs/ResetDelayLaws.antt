@@ -8,6 +8,7 @@ use mathlib.Core.List.{List, [], _∷_}
 use mathlib.Core.Path.{_≡_, refl, sym, _∙_, ap}
 use borrow.Author.Tests.{lt-ltb, le-ltb}
 use lib.Dec.{leb, ltb}
+use Rattle.checks.proofs.Cases.{by-cond}
 use Rattle.checks.proofs.Tests.{leb-iff}
 use Rattle.timer.specs.Answer.{accepted}
 use Rattle.timer.specs.Inputs.{inputOf}
@@ -60,11 +61,8 @@ ticksLeft d (inputs ∷ earlier) = cond (inputOf inputs) d (ticksLeft d earlier 
 ticks-left-to-d : (d : ℕ) (history : List Inputs) → ticksLeft d history ≤ d
 unfolding ticksLeft
 ticks-left-to-d d [] = omega arith
-ticks-left-to-d d (inputs ∷ earlier) = go (inputOf inputs) (ticksLeft d earlier) (ticks-left-to-d d earlier)
-  where
-    go : (on : Bool) (left : ℕ) → left ≤ d → cond on d (left - 1) ≤ d
-    go true left h = omega arith
-    go false left h = omega (arith, h)
+ticks-left-to-d d (inputs ∷ earlier) =
+    by-cond (λ n. n ≤ d) (inputOf inputs) d (ticksLeft d earlier - 1) (λ t. omega arith) (λ t. omega (arith, ticks-left-to-d d earlier))
 
 one-of-latest-on-is-left : (d n : ℕ) (history : List Inputs) → n ≤ d
     → oneOfLatestOn inputOf n history ≡ ltb (d - n) (ticksLeft d history)
