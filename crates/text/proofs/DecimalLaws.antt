@@ -9,10 +9,10 @@ use native.Mathlib.Omega.{arith}
 use lib.Dec.{ltb}
 use lib.ListN.{length, getD, set, length-append}
 use lib.Seq.{sets}
-use borrow.Author.Tests.{le-leb, lt-ltb, le-ltb, ltb-true, ltb-false}
+use borrow.Author.Tests.{lt-ltb, le-ltb, ltb-true, ltb-false}
 use Rattle.text.proofs.StoreLaws.{sets-append}
 use Rattle.checks.proofs.Cases.{by-cond}
-use Rattle.checks.proofs.Tests.{both-true}
+use Rattle.checks.proofs.Tests.{both-true, is-in-range}
 use Rattle.text.specs.Number.{allDigits}
 use Rattle.text.specs.Number.{isDigit, leading, valueFrom, valueOf, decimalIn, decimal}
 
@@ -80,7 +80,7 @@ put-digit s at v h k = rw (decimal-more v h k, sets-append)
 -- ---- reading brings a decimal back
 
 decimal-digit : (v : ℕ) → v < 10 → isDigit (48 + v) ≡ true
-decimal-digit v h = rw (le-leb 48 (48 + v) (omega arith), le-leb (48 + v) 57 (omega arith))
+decimal-digit v h = is-in-range 48 57 (48 + v) (omega arith) (omega arith)
 
 all-none : allDigits [] ≡ true
 unfolding allDigits

@@ -1,18 +1,18 @@
 -- The digits that a text begins with, one at a time.
 -- Assumes nothing.
 use mathlib.Core.Path.{_≡_, sym, ap, _∙_}
-use mathlib.Core.Bool.{true}
+use mathlib.Core.Bool.{true, false}
 use mathlib.Core.List.{List, [], _∷_}
 use Prim.Native.Nat.{ℕ, zero, suc, _+_, _-_, _*_, _^_, _≤_, _<_}
 use native.Mathlib.Nat.{pow-suc, pow-le-pow-right}
 use native.Mathlib.Numerals.{add-one}
 use native.Mathlib.Omega.{arith}
-use lib.Dec.{leb, lit<}
+use lib.Dec.{eqb, lit<}
 use lib.ListN.{length, getD, drop}
 use lib.Seq.{drop-cons, drop-length}
-use borrow.Author.Tests.{le-leb, lt-leb, leb-true}
+use borrow.Author.Tests.{ne-eqb}
 use Rattle.checks.proofs.Cases.{by-cond}
-use Rattle.checks.proofs.Tests.{both-true}
+use Rattle.checks.proofs.Tests.{in-range, is-in-range, below-range, above-range}
 use Rattle.text.specs.declared.number.Digits.{Digits}
 use Rattle.text.specs.Number.{isDigit, leading, valueFrom, valueOf, digitsFrom}
 
@@ -32,9 +32,9 @@ leading-within (suc w) [] = omega arith
 leading-within (suc w) (b ∷ s) =
     by-cond (λ (l : List ℕ). length l ≤ suc (length s)) (isDigit b) (b ∷ leading w s) [] (λ e. omega (arith, leading-within w s)) (λ e. omega arith)
 
--- a byte that is a digit is at most 57
-pub digit-small : (b : ℕ) → isDigit b ≡ true → b ≤ 57
-digit-small b h = leb-true b 57 (both-true (leb 48 b) (leb b 57) h .1)
+-- a byte that stands before the digits is none: CR, LF, comma
+pub digit-is-not : (b d : ℕ) → b < 48 → isDigit d ≡ true → eqb d b ≡ false
+digit-is-not b d low h = ne-eqb d b (λ e. omega (arith, e, low, in-range 48 57 d h .0))
 
 -- v of j digits, with one more
 pub one-more : (v d j : ℕ) → v < 10 ^ j → d < 10 → v * 10 + d < 10 ^ (j + 1)
@@ -48,7 +48,7 @@ value-below (suc w) (b ∷ s) v j h =
     let k : j + suc w ≡ j + 1 + w = omega arith in
     let l : j ≤ j + suc w = omega arith in
     by-cond (λ (l : List ℕ). valueFrom v l < 10 ^ (j + suc w)) (isDigit b) (b ∷ leading w s) []
-    (λ e. rw k (value-below w s (v * 10 + (b - 48)) (j + 1) (one-more v (b - 48) j h (omega (arith, digit-small b e)))))
+    (λ e. rw k (value-below w s (v * 10 + (b - 48)) (j + 1) (one-more v (b - 48) j h (omega (arith, in-range 48 57 b e .1)))))
     (λ e. omega (arith, pow-le-pow-right {n = 10} (omega arith) l))
 
 pub value-small : (w : ℕ) (s : List ℕ) → valueOf (leading w s) < 10 ^ w
@@ -78,18 +78,18 @@ module _ (w n v p : ℕ) (s : List ℕ) where
     module _ (k : p < length s) where
       pub digits-low : getD s p 0 < 48 → here ≡ rest
       unfolding leading valueFrom
-      digits-low a = let z : n + 0 ≡ n = omega arith in rw (split, drop-cons s p 0 k, lt-leb 48 (getD s p 0) a, z)
+      digits-low a = let z : n + 0 ≡ n = omega arith in rw (split, drop-cons s p 0 k, below-range 48 57 (getD s p 0) a, z)
 
       pub digits-high : 57 < getD s p 0 → here ≡ rest
       unfolding leading valueFrom
-      digits-high a = let z : n + 0 ≡ n = omega arith in rw (split, drop-cons s p 0 k, le-leb 48 (getD s p 0) (omega arith), lt-leb (getD s p 0) 57 a, z)
+      digits-high a = let z : n + 0 ≡ n = omega arith in rw (split, drop-cons s p 0 k, above-range 48 57 (getD s p 0) a, z)
 
       pub digits-more : 48 ≤ getD s p 0 → getD s p 0 ≤ 57
           → rest ≡ digitsFrom (n + 1) (v * 10 + (getD s p 0 - 48)) (leading (w - (n + 1)) (drop (p + 1) s))
       unfolding leading valueFrom
       digits-more a b =
           let z : (m : ℕ) → n + suc m ≡ n + 1 + m = λ m. omega arith in
-          rw (split, drop-cons s p 0 k, le-leb 48 (getD s p 0) a, le-leb (getD s p 0) 57 b, z, add-one p)
+          rw (split, drop-cons s p 0 k, is-in-range 48 57 (getD s p 0) a b, z, add-one p)
 
 -- n digits stand at the place, they give v, and what is left gives the whole
 pub record DigitsRead (s : List ℕ) (at width n v : ℕ) : Type 0 where

@@ -6,10 +6,10 @@ use mathlib.Core.Bool.{Bool, true, false, cond, _&&_, _||_, and-false}
 use mathlib.Core.List.{List, [], _∷_, _++_, append-assoc, append-nil}
 use Prim.Native.Nat.{ℕ, zero, suc, _+_, _-_}
 use native.Mathlib.Omega.{arith}
-use lib.Dec.{leb, eqb}
+use lib.Dec.{eqb, lit<}
 use lib.ListN.{length, take, length-append}
 use lib.Seq.{take-append-seam}
-use borrow.Author.Tests.{ne-eqb, leb-true}
+use borrow.Author.Tests.{ne-eqb}
 use Rattle.text.specs.Number.{isDigit, allDigits}
 use Rattle.text.specs.Line.{cr, lf, comma, isLf, endsCrLf, body, crLf, fieldsIn, fitsIn, rightShape, spelled}
 use Rattle.text.specs.declared.lines.Closer.{Closer}
@@ -17,6 +17,7 @@ use Rattle.text.specs.declared.lines.Closer.the-variants.{CrLf}
 use Rattle.text.specs.Lines.{closedBy, lastLine, linesFrom, linesOf, joined}
 use Rattle.checks.proofs.Cases.{by-cond, not-both}
 use Rattle.checks.proofs.Tests.{both-true}
+use Rattle.text.proofs.DigitLaws.{digit-is-not}
 use Rattle.text.proofs.ShapeLaws.{crlf-ends, right-fits, right-written, fit-digits, fit-rest, fit-none}
 
 -- ---- put together they are the input
@@ -172,13 +173,10 @@ no-lf-join (b ∷ s) t h k = by-cond (λ (x : Bool). (x ≡ true → cond (eqb b
     (λ e f. absurd (not-both false f refl))
     (λ e f. rw e (no-lf-join s t f k)) h
 
-digit-no-lf : (d : ℕ) → isDigit d ≡ true → eqb d lf ≡ false
-digit-no-lf d h = ne-eqb d lf (λ e. let k = leb-true 48 d (both-true (leb 48 d) (leb d 57) h .0) in omega arith)
-
 digits-no-lf : (f : List ℕ) → allDigits f ≡ true → noLf f ≡ true
 unfolding allDigits noLf
 digits-no-lf [] h = refl
-digits-no-lf (d ∷ f) h = rw (digit-no-lf d (both-true (isDigit d) (allDigits f) h .0)) (digits-no-lf f (both-true (isDigit d) (allDigits f) h .1))
+digits-no-lf (d ∷ f) h = rw (digit-is-not lf d (lit< tt) (both-true (isDigit d) (allDigits f) h .0)) (digits-no-lf f (both-true (isDigit d) (allDigits f) h .1))
 
 comma-no-lf : (s : List ℕ) → noLf s ≡ true → noLf (comma ∷ s) ≡ true
 unfolding noLf

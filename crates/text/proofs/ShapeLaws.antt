@@ -7,7 +7,7 @@ use Prim.Native.Nat.{ℕ, zero, suc, _+_, _-_, _*_, _^_, _≤_, _<_}
 use native.Mathlib.Numerals.{add-one}
 use native.Mathlib.Nat.{pow-le-pow-right}
 use native.Mathlib.Omega.{arith}
-use lib.Dec.{leb, eqb}
+use lib.Dec.{leb, eqb, lit<}
 use lib.ListN.{length, getD, drop, length-append, length-drop}
 use lib.Seq.{drop-cons, getD-append-seam, drop-append-add, take-append-seam}
 use borrow.Author.Tests.{leb-true, le-leb, eq-eqb, ne-eqb, eqb-true}
@@ -15,7 +15,7 @@ use Rattle.text.specs.Number.{isDigit, allDigits, leading, decimal}
 use Rattle.text.specs.Line.{cr, lf, comma, isLf, endsCrLf, body, crLf, intoFirst, fieldsIn, fitsIn, rightShape, valuesOf, numbersOf, spelled, written}
 use Rattle.checks.proofs.Cases.{by-cond, not-both, same-test}
 use Rattle.checks.proofs.Tests.{both-true}
-use Rattle.text.proofs.DigitLaws.{leading-length}
+use Rattle.text.proofs.DigitLaws.{digit-is-not, leading-length}
 use Rattle.text.proofs.DecimalLaws.{leading-back, decimal-digits, decimal-some, decimal-short}
 use Rattle.text.proofs.ScanLaws.{fieldCloser, scans, scanned, total, field-some, field-closed, field-rest, scan-least, scan-most, scan-lf, numbers-small}
 
@@ -132,20 +132,17 @@ module _ (ws s : List ℕ) (h : rightShape ws s ≡ true) where
 
 -- ---- what is put together from fields that fit is of right shape, and its numbers come back
 
-digit-no-comma : (d : ℕ) → isDigit d ≡ true → eqb d comma ≡ false
-digit-no-comma d h = ne-eqb d comma (λ e. let k = leb-true 48 d (both-true (leb 48 d) (leb d 57) h .0) in omega arith)
-
 fields-one : (f : List ℕ) → allDigits f ≡ true → fieldsIn f ≡ f ∷ []
 unfolding allDigits fieldsIn
 fields-one [] h = refl
 fields-one (d ∷ f) h =
-    rw (digit-no-comma d (both-true (isDigit d) (allDigits f) h .0), fields-one f (both-true (isDigit d) (allDigits f) h .1))
+    rw (digit-is-not comma d (lit< tt) (both-true (isDigit d) (allDigits f) h .0), fields-one f (both-true (isDigit d) (allDigits f) h .1))
 
 fields-more : (f s : List ℕ) → allDigits f ≡ true → fieldsIn (f ++ comma ∷ s) ≡ f ∷ fieldsIn s
 unfolding allDigits fieldsIn
 fields-more [] s h = refl
 fields-more (d ∷ f) s h =
-    rw (digit-no-comma d (both-true (isDigit d) (allDigits f) h .0), fields-more f s (both-true (isDigit d) (allDigits f) h .1))
+    rw (digit-is-not comma d (lit< tt) (both-true (isDigit d) (allDigits f) h .0), fields-more f s (both-true (isDigit d) (allDigits f) h .1))
 
 module _ (w : ℕ) (ws f : List ℕ) (fs : List (List ℕ)) (h : fitsIn (w ∷ ws) (f ∷ fs) ≡ true) where
   pub fit-digits : allDigits f ≡ true

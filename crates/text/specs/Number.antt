@@ -2,13 +2,14 @@
 use mathlib.Core.Bool.{Bool, true, cond, _&&_}
 use mathlib.Core.List.{List, [], _∷_, _++_}
 use Prim.Native.Nat.{ℕ, zero, suc, _+_, _-_, _*_, _/_, _%_}
-use lib.Dec.{leb, ltb}
+use lib.Dec.{ltb}
 use lib.ListN.{length}
+use Rattle.checks.specs.Range.{inRange}
 use Rattle.text.specs.declared.number.Digits.{Digits}
 
 -- the bytes '0' to '9'
 abbrev pub isDigit : ℕ → Bool
-isDigit b = leb 48 b && leb b 57
+isDigit b = inRange 48 57 b
 
 -- "Digits only"
 unfoldable pub allDigits : List ℕ → Bool
