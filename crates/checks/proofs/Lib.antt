@@ -1,3 +1,4 @@
 pub mod Cases
 pub mod Tests
 pub mod LowestLaws
+pub mod PassedLaws

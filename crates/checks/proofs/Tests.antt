@@ -1,8 +1,7 @@
 -- Tests on numbers: two joined, one for another, and a range.
 -- Assumes nothing.
-use Prim.Native.Nat.{ℕ, suc, _≤_, _<_}
-use native.Mathlib.Nat.{suc-ne-zero}
-use mathlib.Core.Bool.{Bool, true, false, cond, _&&_, and-false, false≢true}
+use Prim.Native.Nat.{ℕ, _≤_, _<_}
+use mathlib.Core.Bool.{Bool, true, false, _&&_, and-false, false≢true}
 use mathlib.Core.Path.{_≡_, refl}
 use borrow.Author.Tests.{leb-true, le-leb, lt-leb}
 use lib.Dec.{leb}
@@ -17,11 +16,6 @@ both-true false b e = absurd (false≢true e)
 pub leb-iff : (a b c d : ℕ) → (a ≤ b → c ≤ d) → (c ≤ d → a ≤ b) → leb a b ≡ leb c d
 leb-iff a b c d f g =
     same-test (leb a b) (leb c d) (λ t. le-leb c d (f (leb-true a b t))) (λ t. le-leb a b (g (leb-true c d t)))
-
--- a check that was passed, and what came after it
-pub passed : (b : Bool) (rest k : ℕ) → cond b rest (suc k) ≡ 0 → (b ≡ true) × (rest ≡ 0)
-passed true rest k e = (refl, e)
-passed false rest k e = absurd (suc-ne-zero k e)
 
 -- ---- a range
 

@@ -1,17 +1,17 @@
 -- No tick of a replay is refused: a replay that begins fresh has accepted settings and a valid state at each row.
 -- Assumes nothing.
-use Prim.Native.Nat.{ℕ, _+_, _≤_}
-use native.Mathlib.Omega.{arith}
-use mathlib.Core.Bool.{Bool, true, false, cond}
+use Prim.Native.Nat.{ℕ, _≤_}
+use mathlib.Core.Bool.{true}
 use mathlib.Core.List.{List, [], _∷_}
-use mathlib.Core.Path.{_≡_, refl, ap}
-use borrow.Author.Tests.{leb-true, eqb-true, eq-eqb}
-use lib.Dec.{leb, eqb}
+use mathlib.Core.Path.{_≡_, refl, sym, ap}
+use borrow.Author.Tests.{eq-eqb}
 use Rattle.phase.specs.declared.settings.Settings.{Settings}
 use Rattle.phase.specs.Settings.{settingsRefusal}
 use Rattle.relay.specs.State.{clearRelay, validRelay}
 use Rattle.relay.specs.declared.tick.RelayTicked.{RelayTicked}
 use Rattle.relay.specs.Tick.{relayTickRefusal}
+use Rattle.checks.specs.Checks.{check}
+use Rattle.checks.proofs.PassedLaws.{all-passed}
 use Rattle.relay.proofs.RelayLaws.{clear-relay-is-valid, relay-tick-allowed, relay-tick-accepted, relay-tick-keeps-valid}
 use Rattle.files.specs.declared.progress.Progress.{Progress}
 use Rattle.files.specs.declared.progress.Stage.{Stage}
@@ -22,41 +22,21 @@ use Rattle.files.specs.declared.row.RowRead.the-variants as row
 use Rattle.files.specs.declared.settings_line.SettingsRead.{SettingsRead}
 use Rattle.files.specs.declared.settings_line.SettingsRead.the-variants as settings-line
 use Rattle.text.specs.Line.{rightShape, numbersOf}
-use Rattle.relay.specs.Refusals.{wrongBlock}
-use Rattle.files.specs.Refusals.{wrongShape, wrongNumber}
+use Rattle.files.specs.Refusals.{wrongShape}
 use Rattle.files.specs.Progress.{freshProgress, opened, ticked, rowDone, afterTick, stepped, afterBy, afterLine}
-use Rattle.files.specs.Row.{rowWidths, rowOf, rowRefusal, rowAnswer}
+use Rattle.files.specs.Row.{rowAnswer}
 use Rattle.files.specs.SettingsLine.{settingsWidths, settingsIn, settingsLineRefusal, settingsLineAnswer}
+use Rattle.files.proofs.RowLaws.{accepted-row}
+use Rattle.files.proofs.SettingsLineLaws.{settings-told}
 
--- ---- what an accepted line tells
-
-accepted-block : (s : List ℕ) (last : ℕ) (x : Row) → rowAnswer s last ≡ row.Accepted x → x .block ≤ 1
-unfolding rowAnswer rowRefusal
-accepted-block s last x = go (rightShape rowWidths s) (eqb (rowOf (numbersOf s) .number) (last + 1)) (leb (rowOf (numbersOf s) .block) 1) refl
-  where
-    go : (a b d : Bool) → leb (rowOf (numbersOf s) .block) 1 ≡ d → cond (eqb (cond a (cond b (cond d 0 wrongBlock) wrongNumber) wrongShape) 0) (row.Accepted (rowOf (numbersOf s))) (row.Refused (cond a (cond b (cond d 0 wrongBlock) wrongNumber) wrongShape)) ≡ row.Accepted x → x .block ≤ 1
-    go true true true q e = let same : rowOf (numbersOf s) ≡ x = cc in rw (← same) (leb-true (rowOf (numbersOf s) .block) 1 q)
-    go true true false q e = let z : _≡_ {A = ℕ} 0 1 = cc in absurd (omega arith)
-    go true false d q e = let z : _≡_ {A = ℕ} 0 1 = cc in absurd (omega arith)
-    go false b d q e = let z : _≡_ {A = ℕ} 0 1 = cc in absurd (omega arith)
-
-shaped : (a : Bool) (n : ℕ) → cond a n wrongShape ≡ 0 → n ≡ 0
-shaped true n e = e
-shaped false n e = absurd (omega arith)
-
-checked : (s : List ℕ) → settingsLineRefusal s ≡ 0 → settingsRefusal (settingsIn (numbersOf s)) ≡ 0
-unfolding settingsLineRefusal
-checked s e = shaped (rightShape settingsWidths s) (settingsRefusal (settingsIn (numbersOf s))) e
+-- ---- what an accepted settings line tells
 
 accepted-line : (s : List ℕ) (x : Settings) → settingsLineAnswer s ≡ settings-line.Accepted x → settingsRefusal x ≡ 0
-unfolding settingsLineAnswer
-accepted-line s x = go (eqb (settingsLineRefusal s) 0) refl
-  where
-    go : (b : Bool) → eqb (settingsLineRefusal s) 0 ≡ b → cond b (settings-line.Accepted (settingsIn (numbersOf s))) (settings-line.Refused (settingsLineRefusal s)) ≡ settings-line.Accepted x → settingsRefusal x ≡ 0
-    go true q e =
-        let same : settingsIn (numbersOf s) ≡ x = cc in
-        rw (← same) (checked s (eqb-true (settingsLineRefusal s) 0 q))
-    go false q e = let z : _≡_ {A = ℕ} 0 1 = cc in absurd (omega arith)
+unfolding settingsLineAnswer settingsLineRefusal
+accepted-line s x e =
+    let none : settingsLineRefusal s ≡ 0 = sym (settings-told (settings-line.Accepted x) s (sym e) .1) in
+    let same : settingsIn (numbersOf s) ≡ x = cc in
+    rw (← same) (all-passed (check (rightShape settingsWidths s) wrongShape ∷ []) (settingsRefusal (settingsIn (numbersOf s))) refl none .1)
 
 -- ---- what every line keeps
 
@@ -90,7 +70,7 @@ stepped-right p (row.Refused n) right h = tt
 line-keeps : (stage : Stage) (p : Progress) (l : List ℕ) → p .stage ≡ stage → Right stage p → let q : Progress = afterBy stage p l in Right (q .stage) q
 unfolding afterBy
 line-keeps Opening p l s right = opened-right p (settingsLineAnswer l) right (λ x. accepted-line l x)
-line-keeps Running p l s right = stepped-right p (rowAnswer l (p .done)) right (λ x. accepted-block l (p .done) x)
+line-keeps Running p l s right = stepped-right p (rowAnswer l (p .done)) right (λ x e. accepted-row l (p .done) x e .block)
 line-keeps (Stopped n) p l s right = rw s right
 
 abbrev pub afterLines : Progress → List (List ℕ) → Progress
@@ -111,8 +91,8 @@ module _ (ls : List (List ℕ)) (l : List ℕ) (x : Row) where
     right-reached = rw running at (lines-keep freshProgress ls refl)
 
     pub no-tick-refused : ticked reached x .refusal ≡ 0
-    no-tick-refused = tick-is-accepted reached x right-reached (accepted-block l (reached .done) x e)
+    no-tick-refused = tick-is-accepted reached x right-reached (accepted-row l (reached .done) x e .block)
 
     pub accepted-row-is-done : afterLine reached l ≡ rowDone reached (ticked reached x)
     unfolding afterBy
-    accepted-row-is-done = rw (running, e) (done-right reached x right-reached (accepted-block l (reached .done) x e))
+    accepted-row-is-done = rw (running, e) (done-right reached x right-reached (accepted-row l (reached .done) x e .block))

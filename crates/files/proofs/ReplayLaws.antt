@@ -18,7 +18,8 @@ use Rattle.text.specs.Lines.{linesOf}
 use Rattle.files.specs.Refusals.{wrongShape}
 use Rattle.files.specs.Progress.{freshProgress, stopped, opened, afterBy, wroteBy, endRefusal, endOf}
 use Rattle.files.specs.Replay.{byLines, replayOf}
-use Rattle.checks.proofs.Cases.{by-cond}
+use Rattle.checks.specs.Checks.{check}
+use Rattle.checks.proofs.PassedLaws.{all-passed}
 use Rattle.files.proofs.SettingsLineLaws.{settings-refused}
 use Rattle.files.proofs.RefusedLaws.{Misshapen, open-misshapen, stopped-ends}
 use Rattle.text.proofs.CutLaws.{lines-nil, last-nothing, last-line}
@@ -66,9 +67,8 @@ accepted-settings l e = rw e
 
 accepted-shape : (l : List ℕ) → settingsLineRefusal l ≡ 0 → rightShape settingsWidths l ≡ true
 unfolding settingsLineRefusal
-accepted-shape l =
-    by-cond (λ (n : ℕ). n ≡ 0 → rightShape settingsWidths l ≡ true) (rightShape settingsWidths l) (settingsRefusal (settingsIn (numbersOf l))) wrongShape
-    (λ t e. t) (λ t e. absurd (omega arith))
+accepted-shape l e =
+    all-passed (check (rightShape settingsWidths l) wrongShape ∷ []) (settingsRefusal (settingsIn (numbersOf l))) refl e .0 .0
 
 lines-one : (l : List ℕ) → settingsLineRefusal l ≡ 0 → linesOf CrLf l ≡ l ∷ []
 lines-one l e =

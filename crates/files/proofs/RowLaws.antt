@@ -1,13 +1,13 @@
 -- From the line that was read to the row's answer; and what an answer tells of its row.
 -- Assumes nothing.
 use mathlib.Core.Path.{_≡_, refl, sym, ap, _∙_}
-use mathlib.Core.Bool.{true, false, cond}
+use mathlib.Core.Bool.{true, false}
 use mathlib.Core.List.{List, [], _∷_}
 use Prim.Native.Nat.{ℕ, _+_, _^_, _≤_, _<_}
 use native.Mathlib.Omega.{arith}
 use lib.Dec.{leb, eqb}
 use lib.ListN.{length, getD}
-use borrow.Author.Tests.{eq-eqb, ne-eqb, le-leb, lt-leb, eqb-true}
+use borrow.Author.Tests.{eq-eqb, ne-eqb, le-leb, lt-leb, eqb-true, leb-true}
 use Rattle.text.specs.declared.line.Line.{Line}
 use Rattle.files.specs.declared.row.Row.{Row}
 use Rattle.files.specs.declared.row.RowRead.{RowRead}
@@ -19,7 +19,8 @@ use Rattle.relay.specs.Refusals.{wrongBlock}
 use Rattle.files.specs.Refusals.{wrongShape, wrongNumber}
 use Rattle.files.specs.Output.{changeRoom}
 use Rattle.files.specs.Row.{lastRow, rowWidths, rowOf, rowRefusal, rowAnswer, rowNumber}
-use Rattle.checks.proofs.Cases.{by-cond}
+use Rattle.checks.specs.Checks.{check}
+use Rattle.checks.proofs.PassedLaws.{all-passed}
 use Rattle.files.proofs.AnswerNumbers.{answer-number}
 use Rattle.text.proofs.DecimalLaws.{decimal-back}
 use Rattle.text.proofs.ShapeLaws.{shape-least, number-below, fits-none, fits-decimal, written-right, written-numbers}
@@ -83,34 +84,30 @@ module _ (s : List ℕ) (last : ℕ) where
 
 -- ---- an accepted row
 
--- P of an answer, where it holds of a refusal and of an accepted row, which is as long as any change line, or longer
-pub by-row : (P : RowRead → Type 0) (s : List ℕ) (last : ℕ) → ((n : ℕ) → P (Refused n))
-    → ((x : Row) → rightShape rowWidths s ≡ true → changeRoom ≤ length s → last + 1 ≤ lastRow → P (Accepted x)) → P (rowAnswer s last)
-unfolding rowAnswer rowRefusal
-by-row P s last f g =
-    by-cond P (eqb (rowRefusal s last) 0) (Accepted (rowOf (numbersOf s))) (Refused (rowRefusal s last))
-    (λ e.
-    by-cond (λ (n : ℕ). n ≡ 0 → P (Accepted (rowOf (numbersOf s)))) (rightShape rowWidths s)
-    (cond (eqb (getD (numbersOf s) 0 0) (last + 1)) (cond (leb (getD (numbersOf s) 5 0) 1) 0 wrongBlock) wrongNumber) wrongShape
-    (λ t.
-    by-cond (λ (n : ℕ). n ≡ 0 → P (Accepted (rowOf (numbersOf s)))) (eqb (getD (numbersOf s) 0 0) (last + 1)) (cond (leb (getD (numbersOf s) 5 0) 1) 0 wrongBlock) wrongNumber
-    (λ n k.
-    g (rowOf (numbersOf s)) t (omega (arith, shape-least rowWidths s (omega arith) t))
-    (omega (arith, eqb-true (getD (numbersOf s) 0 0) (last + 1) n, number-below rowWidths s (omega arith) t 0)))
-    (λ n k. absurd (omega arith)))
-    (λ t k. absurd (omega arith))
-    (eqb-true (rowRefusal s last) 0 e))
-    (λ e. f (rowRefusal s last))
+-- it is as long as any change line, or longer; its number is one of six digits, and its block is 0 or 1
+pub record AcceptedRow (s : List ℕ) (last : ℕ) (x : Row) : Type 0 where
+  pub room : changeRoom ≤ length s
+  pub number : last + 1 ≤ lastRow
+  pub block : x .block ≤ 1
 
-pub accepted-row : (s : List ℕ) (last : ℕ) (x : Row) → rowAnswer s last ≡ Accepted x → (changeRoom ≤ length s) × (last + 1 ≤ lastRow)
-accepted-row s last x =
-    by-row (λ (a : RowRead). a ≡ Accepted x → (changeRoom ≤ length s) × (last + 1 ≤ lastRow)) s last
-    (λ n e. let z : _≡_ {A = ℕ} 0 1 = cc in absurd (omega arith))
-    (λ y t k m e. (k, m))
+pub accepted-row : (s : List ℕ) (last : ℕ) (x : Row) → rowAnswer s last ≡ Accepted x → AcceptedRow s last x
+unfolding rowAnswer rowRefusal
+accepted-row s last x e =
+    let n = getD (numbersOf s) 0 0 in
+    let block = getD (numbersOf s) 5 0 in
+    let checks = check (rightShape rowWidths s) wrongShape ∷ check (eqb n (last + 1)) wrongNumber ∷ check (leb block 1) wrongBlock ∷ [] in
+    let none : rowRefusal s last ≡ 0 = sym (row-told (Accepted x) s last (sym e) .1) in
+    let (shape, (next, (free, end))) = all-passed checks 0 refl none .0 in
+    let same : rowOf (numbersOf s) ≡ x = cc in
+    record {
+      room = omega (arith, shape-least rowWidths s (omega arith) shape);
+      number = omega (arith, eqb-true n (last + 1) next, number-below rowWidths s (omega arith) shape 0);
+      block = rw (← same) (leb-true block 1 free);
+    }
 
 -- after row 999,999 no row is right
 pub no-row-after-last : (s : List ℕ) (x : Row) → rowAnswer s lastRow ≡ Accepted x → ⊥
-no-row-after-last s x e = let k = accepted-row s lastRow x e .1 in omega arith
+no-row-after-last s x e = let k = accepted-row s lastRow x e .number in omega arith
 
 -- ---- a row that is written in decimals is read back
 

@@ -1,17 +1,17 @@
 -- An accepted call: what it gives, that it leaves a valid state, and so a run of accepted ticks.
 -- Assumes nothing.
 use Prim.Native.Nat.{ℕ, _≤_}
-use native.Mathlib.Nat.{suc-ne-zero}
 use native.Mathlib.Omega.{arith}
-use mathlib.Core.Bool.{Bool, true, false, cond}
+use mathlib.Core.Bool.{Bool, true, false}
 use mathlib.Core.List.{List, [], _∷_}
 use mathlib.Core.Path.{_≡_, refl}
-use borrow.Author.Tests.{leb-true, le-leb}
-use lib.Dec.{leb, ltb}
+use borrow.Author.Tests.{leb-true, le-leb, eqb-true}
+use lib.Dec.{leb, ltb, eqb}
 use Rattle.checks.proofs.Cases.{by-cond}
-use Rattle.timer.specs.Answer.{accepted, answered}
+use Rattle.checks.proofs.PassedLaws.{all-passed}
+use Rattle.timer.specs.Answer.{accepted}
 use Rattle.timer.specs.Inputs.{inputOf}
-use Rattle.timer.specs.Refusals.{invalidTimer, delayTooLong}
+use Rattle.timer.specs.Refusals.{timerChecks, timerRefusal}
 use Rattle.timer.specs.Rules.{fires, setDelayRule, holdRule, resetDelayRule, flipFlopRule}
 use Rattle.timer.specs.State.{countLimit, delayLimit, freshTimer, validTimer}
 use Rattle.timer.specs.Timer.{timerAnswer}
@@ -64,24 +64,24 @@ rule-leaves-valid rule d state valid fits =
     le-leb (byRule rule d state .state .count) countLimit
     (rule-in-limit rule d state (leb-true (state .count) countLimit valid) (leb-true d delayLimit fits))
 
--- by the two tests of the refusal and the reset
-answered-in-limit : (valid fits reset : Bool) (state : TimerState) (ruled : Timed)
-    → (valid ≡ true → fits ≡ true → InLimit ruled)
-    → answered (cond valid (cond fits 0 delayTooLong) invalidTimer) reset state ruled .refusal ≡ 0
-    → InLimit (answered (cond valid (cond fits 0 delayTooLong) invalidTimer) reset state ruled)
-answered-in-limit true true true state ruled h e = omega arith
-answered-in-limit true true false state ruled h e = h refl refl
-answered-in-limit true false reset state ruled h e = absurd (suc-ne-zero 14 e)
-answered-in-limit false fits reset state ruled h e = absurd (suc-ne-zero 7 e)
+-- an answer without a refusal is that of a call that passed both checks
+answer-passed : (reset : Bool) (state : TimerState) (d : ℕ) (ruled : Timed)
+    → timerAnswer reset state d ruled .refusal ≡ 0 → (validTimer state ≡ true) × (leb d delayLimit ≡ true)
+unfolding timerAnswer
+answer-passed reset state d ruled e =
+    let n = timerRefusal state d in
+    let none = by-cond (λ (answer : Timed). answer .refusal ≡ 0 → n ≡ 0) (eqb n 0) _ _ (λ t z. eqb-true n 0 t) (λ t z. z) e in
+    let (valid, (fits, end)) = all-passed (timerChecks state d) 0 refl none .0 in
+    (valid, fits)
 
 pub accepted-leaves-valid : (rule : Rule) (reset : Bool) (state : TimerState) (d : ℕ)
     → timerAnswer reset state d (byRule rule d state) .refusal ≡ 0 → validTimer (timerAnswer reset state d (byRule rule d state) .state) ≡ true
-unfolding timerAnswer
-accepted-leaves-valid rule reset state d e =
-    le-leb _ countLimit
-    (answered-in-limit (validTimer state) (leb d delayLimit) reset state (byRule rule d state)
-    (λ valid fits. rule-in-limit rule d state (leb-true (state .count) countLimit valid) (leb-true d delayLimit fits))
-    e)
+accepted-leaves-valid rule true state d e =
+    let (valid, fits) = answer-passed true state d (byRule rule d state) e in
+    rw (reset-makes-fresh state d (byRule rule d state) valid fits)
+accepted-leaves-valid rule false state d e =
+    let (valid, fits) = answer-passed false state d (byRule rule d state) e in
+    rw (accepted-gives-ruled state d (byRule rule d state) valid fits) (rule-leaves-valid rule d state valid fits)
 
 -- ---- a run of accepted ticks
 
