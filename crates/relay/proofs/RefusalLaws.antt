@@ -1,36 +1,23 @@
 -- Each call's checks stand in the order of their numbers, so the number given is the lowest that applies.
 -- Assumes nothing.
 use Prim.Native.Nat.{ℕ}
-use mathlib.Core.Bool.{true}
 use mathlib.Core.List.{List}
-use mathlib.Core.Path.{_≡_, refl}
-use Rattle.checks.proofs.LowestLaws.{rising, IsLowest, lowest-is-least}
+use mathlib.Core.Path.{refl}
+use Rattle.checks.proofs.LowestLaws.{IsLowest, lowest-is-least}
 use Rattle.phase.specs.declared.settings.Settings.{Settings}
 use Rattle.relay.specs.declared.state.RelayState.{RelayState}
 use Rattle.relay.specs.Batch.{Samples, batchChecks, batchRefusal}
 use Rattle.relay.specs.Border.{Slices, borderChecks, borderRefusal}
 use Rattle.relay.specs.Tick.{relayTickChecks, relayTickRefusal}
 
-relay-tick-checks-rise : (settings : Settings) (relay : RelayState) (block : ℕ) → rising 0 (relayTickChecks settings relay block) ≡ true
-relay-tick-checks-rise settings relay block = refl
-
 pub relay-tick-refusal-lowest : (settings : Settings) (relay : RelayState) (block : ℕ) → IsLowest (relayTickRefusal settings relay block) (relayTickChecks settings relay block)
 unfolding relayTickRefusal
-relay-tick-refusal-lowest settings relay block =
-    lowest-is-least (relayTickChecks settings relay block) (relay-tick-checks-rise settings relay block)
-
-batch-checks-rise : (settings : Settings) (relay : RelayState) (samples : Samples) (out : List ℕ) → rising 0 (batchChecks settings relay samples out) ≡ true
-batch-checks-rise settings relay samples out = refl
+relay-tick-refusal-lowest settings relay block = lowest-is-least (relayTickChecks settings relay block) refl
 
 pub batch-refusal-lowest : (settings : Settings) (relay : RelayState) (samples : Samples) (out : List ℕ) → IsLowest (batchRefusal settings relay samples out) (batchChecks settings relay samples out)
 unfolding batchRefusal
-batch-refusal-lowest settings relay samples out =
-    lowest-is-least (batchChecks settings relay samples out) (batch-checks-rise settings relay samples out)
-
-border-checks-rise : (settings : Settings) (slices : Slices) → rising 0 (borderChecks settings slices) ≡ true
-border-checks-rise settings slices = refl
+batch-refusal-lowest settings relay samples out = lowest-is-least (batchChecks settings relay samples out) refl
 
 pub border-refusal-lowest : (settings : Settings) (slices : Slices) → IsLowest (borderRefusal settings slices) (borderChecks settings slices)
 unfolding borderRefusal
-border-refusal-lowest settings slices =
-    lowest-is-least (borderChecks settings slices) (border-checks-rise settings slices)
+border-refusal-lowest settings slices = lowest-is-least (borderChecks settings slices) refl

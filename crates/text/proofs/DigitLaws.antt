@@ -25,13 +25,6 @@ leading-length (suc w) [] = omega arith
 leading-length (suc w) (b ∷ s) =
     by-cond (λ (l : List ℕ). length l ≤ suc w) (isDigit b) (b ∷ leading w s) [] (λ e. omega (arith, leading-length w s)) (λ e. omega arith)
 
-pub leading-within : (w : ℕ) (s : List ℕ) → length (leading w s) ≤ length s
-unfolding leading
-leading-within zero s = omega arith
-leading-within (suc w) [] = omega arith
-leading-within (suc w) (b ∷ s) =
-    by-cond (λ (l : List ℕ). length l ≤ suc (length s)) (isDigit b) (b ∷ leading w s) [] (λ e. omega (arith, leading-within w s)) (λ e. omega arith)
-
 -- a byte that stands before the digits is none: CR, LF, comma
 pub digit-is-not : (b d : ℕ) → b < 48 → isDigit d ≡ true → eqb d b ≡ false
 digit-is-not b d low h = ne-eqb d b (λ e. omega (arith, e, low, in-range 48 57 d h .0))
