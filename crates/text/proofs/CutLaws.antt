@@ -55,13 +55,6 @@ module _ (closer : Closer) (limit : ℕ) (line : List ℕ) where
       (λ e n k. let z : _≡_ {A = ℕ} 0 1 = cc in absurd (omega arith))
       (λ e n k. n)
 
-  pub too-long-length : cutOf closer limit line ≡ TooLong → length line ≡ limit
-  too-long-length =
-      by-cut (λ (k : Cut). k ≡ TooLong → length line ≡ limit)
-      (λ e k. let z : _≡_ {A = ℕ} 0 1 = cc in absurd (omega arith))
-      (λ e n k. n)
-      (λ e n k. let z : _≡_ {A = ℕ} 0 1 = cc in absurd (omega arith))
-
 -- by the n bytes held and the next
 module _ (closer : Closer) (limit n b : ℕ) (held : List ℕ) (h : n ≤ length held) where
   abbrev next : List ℕ

@@ -14,7 +14,6 @@ use Rattle.text.specs.declared.cutter.Cutter.{Cutter}
 use Rattle.text.specs.declared.cutter.PieceCut.{PieceCut}
 use Rattle.text.specs.Lines.{cuttingBy, cutSoFar, cutting}
 use Rattle.text.specs.Cutter.{Piece, pieceBy, pieceOf, heldRoom, heldLine, holding, limitOf, cutFrom, pieceFrom, pieceIf, pieceAnswer}
-use Rattle.text.proofs.StoreLaws.{sets-append}
 use Rattle.text.proofs.CutLaws.{by-cut}
 
 closed-not-held : Closed ≡ Held → ⊥
@@ -76,11 +75,6 @@ pub held-with : (c : Cutter) (bytes : List ℕ) → c .count + length bytes ≤ 
 held-with c bytes h =
     let l : length (heldLine c ++ bytes) ≡ c .count + length bytes = rw (length-append, length-take) (omega arith) in
     rw (sets-eq bytes (c .held) (c .count) h) (take-at (heldLine c ++ bytes) (drop (c .count + length bytes) (c .held)) (c .count + length bytes) l)
-
-pub holding-on : (c : Cutter) (xs ys : List ℕ) → holding (holding c xs) ys ≡ holding c (xs ++ ys)
-holding-on c xs ys =
-    let n : c .count + length (xs ++ ys) ≡ c .count + length xs + length ys = rw (length-append) (omega arith) in
-    rw (n, sets-append (c .held) (c .count) xs ys)
 
 -- ---- what a cutter answers, by its line
 
