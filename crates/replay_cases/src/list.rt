@@ -1,4 +1,4 @@
-// A list of cases, each `name:bytes;`.
+// A list of cases, each `name:bytes;`, on lines of their own or not.
 use crate::line::say;
 use crate::readers::row;
 use crate::readers::settings_line;
@@ -37,18 +37,27 @@ fn run(kind: Kind, name: &[u8], bytes: &[u8]) {
     }
 }
 
+// After the line end that stands at a place, or there.
+fn past_line_end(text: &[u8], at: usize) -> usize
+    requires { ⌜ at < length (now text) ⌝ }
+    ensures { λ r. ⌜ (at ≤ r) × (r ≤ length (now (text .entry))) ⌝ }
+{
+    if text[at] == b'\n' { at + 1 } else { at }
+}
+
 // Runs the case that begins at a place, and answers where the next begins.
 fn run_at(kind: Kind, list: &[u8], at: usize) -> usize
     requires { ⌜ at < length (now list) ⌝ }
     ensures { λ r. ⌜ (at < r) × (r ≤ length (now (list .entry))) ⌝ }
 {
-    let colon = find(list, at, b':');
+    let name = past_line_end(list, at);
+    let colon = find(list, name, b':');
     if colon == list.len() {
         return colon;
     }
     let start = colon + 1;
     let end = find(list, start, b';');
-    run(kind, &list[at..colon], &list[start..end]);
+    run(kind, &list[name..colon], &list[start..end]);
     if end == list.len() {
         return end;
     }

@@ -1,25 +1,27 @@
-// Inputs of the replay, run in memory through the library. For each case: its name, its length, and what its replay
-// writes; and whether that differs where the input is cut in two at any place, or fed byte by byte.
+// Inputs of the replay, run in memory through the library: those of standard input, and some of its own. For each case: its
+// name, its length, and what its replay writes; and whether that differs where the input is cut in two at any place, or fed
+// byte by byte.
 mod line;
 mod list;
 mod made_up;
 mod reader_cases;
 mod readers;
 mod room;
-mod row_cases;
 mod run;
-mod settings_cases;
+
+use list::Kind;
+use list::each;
+
+// As bytes of the code the cases would take most of the time of its check.
+fn read_cases() {
+    let mut cases = [0u8; 8192];
+    let got = program::read_portion(&mut cases);
+    let n = got.count;
+    each(Kind::Replay, &cases[..n]);
+}
 
 fn main() {
-    settings_cases::shape();
-    settings_cases::fields();
-    settings_cases::below();
-    settings_cases::above();
-    row_cases::accepted();
-    row_cases::changes();
-    row_cases::numbers();
-    row_cases::fields();
-    row_cases::ends();
+    read_cases();
     reader_cases::later_rows();
     reader_cases::first_rows();
     reader_cases::settings_lines();
