@@ -11,7 +11,7 @@ use libc::ENOSPC;
 use libc::EPERM;
 use libc::EPIPE;
 
-// No error is negative, but only a test shows it.
+// No error is negative: the test is there for the cast's proof.
 fn say_error_number(error: i32) {
     say(b"error ");
     if 0 <= error {
@@ -35,7 +35,7 @@ fn say_error(error: i32) {
     }
 }
 
-// One line, to be written just after the call: what was tried, and why it failed. The kit's `os::fail` has the C library's
+// One line: what was tried, and why it failed. Called at once, while errno is still that call's. The kit's `os::fail` has the C library's
 // words for every error, but gives up where a signal interrupts it.
 pub(crate) fn say_failure(tried: &[u8]) {
     let error = os::errno();

@@ -12,7 +12,7 @@ mod run;
 use list::Kind;
 use list::each;
 
-// As bytes of the code the cases would take most of the time of its check.
+// As bytes of the code the cases would make its check a quarter longer.
 fn read_cases() {
     let mut cases = [0u8; 8192];
     let got = program::read_portion(&mut cases);
