@@ -96,9 +96,8 @@ static void prefixes(void)
     }
 }
 
-/* Bytes that end fields and lines, the neighbours of the digits, and what editors leave behind. */
-static const char strange[] = {'0', '9', ',', '\r', '\n', ' ', 'A', '/', ':', '\0', '\x1a',
-                               (char)0xb1};
+/* A digit, the bytes that end fields and lines, the neighbours of the digits, and a byte that is no letter. */
+static const char strange[] = {'0', ',', '\r', '\n', '/', ':', (char)0xb1};
 
 static void one_byte_hurt(void)
 {

@@ -9,15 +9,15 @@ use Rattle.curve.specs.Gain.{gainOf}
 use Rattle.curve.specs.Ratio.{ratioOf}
 use Rattle.curve.specs.Rounding.{roundedUp}
 use Rattle.curve.specs.Time.{operateTime, resetTime}
-use Rattle.phase.specs.declared.jump.TripTick.{TripTick}
-use Rattle.phase.specs.declared.jump.TripTick.the-variants.{At, None}
+use Rattle.jumps.specs.declared.jump.TripTick.{TripTick}
+use Rattle.jumps.specs.declared.jump.TripTick.the-variants.{At, None}
 use Rattle.phase.specs.declared.settings.Settings.{Settings}
-use Rattle.phase.specs.device.Closed.{firstTripBy}
-use Rattle.phase.specs.Jump.{tripTick, jumpAnswer, jumpRefusal}
+use Rattle.jumps.specs.device.FirstTrip.{firstTripBy}
+use Rattle.jumps.specs.Jump.{tripTick, jumpAnswer, jumpRefusal}
 use Rattle.phase.specs.Operation.{kindOf}
 use Rattle.phase.specs.State.{clearState, valid}
 use Rattle.phase.specs.Tick.{gainAt, started}
-use Rattle.phase.proofs.JumpMeans.{jump-trip-closed}
+use Rattle.jumps.proofs.JumpMeans.{jump-trip-closed}
 
 -- a number of the paper, or the trip tick of a jump
 data Shown : Type 0 where

@@ -1,9 +1,9 @@
 // The class examples on one phase.
 use crate::line::say;
 use crate::line::verdict;
+use jumps::jump::jump;
 use phase::PhaseState;
 use phase::Settings;
-use phase::jump::jump;
 use phase::tick::tick;
 
 // IEC VeryInv with the start current s and the reset time 60.

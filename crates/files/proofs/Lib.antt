@@ -1,6 +1,3 @@
-pub mod AnswerNumbers
-pub mod RowLaws
-pub mod SettingsLineLaws
 pub mod OutputLaws
 pub mod ProgressLaws
 pub mod RefusedLaws

@@ -16,18 +16,18 @@ use Rattle.relay.proofs.RelayLaws.{clear-relay-is-valid, relay-tick-allowed, re
 use Rattle.files.specs.declared.progress.Progress.{Progress}
 use Rattle.files.specs.declared.progress.Stage.{Stage}
 use Rattle.files.specs.declared.progress.Stage.the-variants.{Opening, Running, Stopped}
-use Rattle.files.specs.declared.row.Row.{Row}
-use Rattle.files.specs.declared.row.RowRead.{RowRead}
-use Rattle.files.specs.declared.row.RowRead.the-variants as row
-use Rattle.files.specs.declared.settings_line.SettingsRead.{SettingsRead}
-use Rattle.files.specs.declared.settings_line.SettingsRead.the-variants as settings-line
+use Rattle.rows.specs.declared.row.Row.{Row}
+use Rattle.rows.specs.declared.row.RowRead.{RowRead}
+use Rattle.rows.specs.declared.row.RowRead.the-variants as row
+use Rattle.rows.specs.declared.settings_line.SettingsRead.{SettingsRead}
+use Rattle.rows.specs.declared.settings_line.SettingsRead.the-variants as settings-line
 use Rattle.text.specs.Line.{rightShape, numbersOf}
-use Rattle.files.specs.Refusals.{wrongShape}
+use Rattle.rows.specs.Refusals.{wrongShape}
 use Rattle.files.specs.Progress.{freshProgress, opened, ticked, rowDone, afterTick, stepped, afterBy, afterLine}
-use Rattle.files.specs.Row.{rowAnswer}
-use Rattle.files.specs.SettingsLine.{settingsWidths, settingsIn, settingsLineRefusal, settingsLineAnswer}
-use Rattle.files.proofs.RowLaws.{accepted-row}
-use Rattle.files.proofs.SettingsLineLaws.{settings-told}
+use Rattle.rows.specs.Row.{rowAnswer}
+use Rattle.rows.specs.SettingsLine.{settingsWidths, settingsIn, settingsLineRefusal, settingsLineAnswer}
+use Rattle.rows.proofs.RowLaws.{accepted-row}
+use Rattle.rows.proofs.SettingsLineLaws.{settings-told}
 
 -- ---- what an accepted settings line tells
 

@@ -10,7 +10,7 @@ use lib.Seq.{sets}
 use Rattle.text.specs.Line.{lf, comma}
 use Rattle.text.specs.Number.{decimal}
 use Rattle.files.specs.Output.{pairLine, changeLine, changeRoom, endLine, endRoom}
-use Rattle.files.specs.Row.{lastRow}
+use Rattle.rows.specs.Row.{lastRow}
 use Rattle.text.proofs.StoreLaws.{sets-append}
 use Rattle.text.proofs.DecimalLaws.{decimal-length, decimal-short}
 

@@ -8,14 +8,14 @@ use lib.ListN.{length}
 use lib.Seq.{sets}
 use borrow.Author.Tests.{eq-eqb, ne-eqb}
 use Rattle.relay.specs.declared.tick.RelayTicked.{RelayTicked}
-use Rattle.files.specs.declared.row.Row.{Row}
-use Rattle.files.specs.declared.row.RowRead.{RowRead}
-use Rattle.files.specs.declared.row.RowRead.the-variants.{Accepted, Refused}
+use Rattle.rows.specs.declared.row.Row.{Row}
+use Rattle.rows.specs.declared.row.RowRead.{RowRead}
+use Rattle.rows.specs.declared.row.RowRead.the-variants.{Accepted, Refused}
 use Rattle.files.specs.declared.progress.Stage.{Stage}
 use Rattle.files.specs.declared.progress.Stage.the-variants.{Opening, Running, Stopped}
 use Rattle.files.specs.declared.progress.Progress.{Progress}
 use Rattle.files.specs.declared.progress.Noted.{Noted}
-use Rattle.files.specs.SettingsLine.{settingsLineAnswer}
+use Rattle.rows.specs.SettingsLine.{settingsLineAnswer}
 use Rattle.files.specs.Progress.{stopped, opened, rowDone, afterTick, wroteTick, stepped, changed, afterRow, wroteRow, changeOf, ticked, afterBy, wroteBy, afterLine, wroteLine}
 use Rattle.files.specs.device.Calls.{notedOf}
 

@@ -10,11 +10,11 @@ use Rattle.files.specs.declared.progress.Stage.{Stage}
 use Rattle.files.specs.declared.progress.Stage.the-variants.{Opening, Running, Stopped}
 use Rattle.files.specs.declared.progress.Progress.{Progress}
 use Rattle.text.specs.Line.{endsCrLf, rightShape}
-use Rattle.files.specs.Row.{rowWidths, rowRefusal, rowAnswer}
-use Rattle.files.specs.SettingsLine.{settingsWidths, settingsLineRefusal, settingsLineAnswer}
+use Rattle.rows.specs.Row.{rowWidths, rowRefusal, rowAnswer}
+use Rattle.rows.specs.SettingsLine.{settingsWidths, settingsLineRefusal, settingsLineAnswer}
 use Rattle.text.specs.declared.lines.Closer.the-variants.{CrLf}
 use Rattle.text.specs.Lines.{linesFrom}
-use Rattle.files.specs.Refusals.{wrongShape}
+use Rattle.rows.specs.Refusals.{wrongShape}
 use Rattle.files.specs.Progress.{stopped, afterBy, wroteBy, afterLine, wroteLine, endOf, refuseBy, refuse}
 use Rattle.files.specs.Replay.{byLines, lineLimit}
 use Rattle.checks.proofs.Cases.{by-cond, not-both, not-true}

@@ -7,20 +7,20 @@ use Prim.Native.Nat.{ℕ, _<_}
 use native.Mathlib.Omega.{arith}
 use lib.ListN.{length}
 use Rattle.phase.specs.Settings.{settingsRefusal}
-use Rattle.files.specs.declared.settings_line.SettingsRead.{SettingsRead}
-use Rattle.files.specs.declared.settings_line.SettingsRead.the-variants.{Accepted}
+use Rattle.rows.specs.declared.settings_line.SettingsRead.{SettingsRead}
+use Rattle.rows.specs.declared.settings_line.SettingsRead.the-variants.{Accepted}
 use Rattle.files.specs.declared.progress.Progress.{Progress}
 use Rattle.text.specs.Line.{numbersOf, rightShape}
-use Rattle.files.specs.SettingsLine.{settingsWidths, settingsIn, settingsLineRefusal, settingsLineAnswer}
+use Rattle.rows.specs.SettingsLine.{settingsWidths, settingsIn, settingsLineRefusal, settingsLineAnswer}
 use Rattle.files.specs.Output.{endLine}
 use Rattle.text.specs.declared.lines.Closer.the-variants.{CrLf}
 use Rattle.text.specs.Lines.{linesOf}
-use Rattle.files.specs.Refusals.{wrongShape}
+use Rattle.rows.specs.Refusals.{wrongShape}
 use Rattle.files.specs.Progress.{freshProgress, stopped, opened, afterBy, wroteBy, endRefusal, endOf}
 use Rattle.files.specs.Replay.{byLines, replayOf}
 use Rattle.checks.specs.Checks.{check}
 use Rattle.checks.proofs.PassedLaws.{all-passed}
-use Rattle.files.proofs.SettingsLineLaws.{settings-refused}
+use Rattle.rows.proofs.SettingsLineLaws.{settings-refused}
 use Rattle.files.proofs.RefusedLaws.{Misshapen, open-misshapen, stopped-ends}
 use Rattle.text.proofs.CutLaws.{lines-nil, last-nothing, last-line}
 use Rattle.text.proofs.LinesLaws.{hasCrLf, has-ends, open-input, line-first}

@@ -7,17 +7,17 @@ use Rattle.phase.specs.declared.settings.Settings.{Settings}
 use Rattle.relay.specs.declared.tick.RelayTicked.{RelayTicked}
 use Rattle.relay.specs.State.{clearRelay}
 use Rattle.relay.specs.Tick.{relayTickAnswer}
-use Rattle.files.specs.declared.row.Row.{Row}
-use Rattle.files.specs.declared.row.RowRead.{RowRead}
-use Rattle.files.specs.declared.row.RowRead.the-variants as row
-use Rattle.files.specs.declared.settings_line.SettingsRead.{SettingsRead}
-use Rattle.files.specs.declared.settings_line.SettingsRead.the-variants as settings-line
+use Rattle.rows.specs.declared.row.Row.{Row}
+use Rattle.rows.specs.declared.row.RowRead.{RowRead}
+use Rattle.rows.specs.declared.row.RowRead.the-variants as row
+use Rattle.rows.specs.declared.settings_line.SettingsRead.{SettingsRead}
+use Rattle.rows.specs.declared.settings_line.SettingsRead.the-variants as settings-line
 use Rattle.files.specs.declared.progress.Stage.{Stage}
 use Rattle.files.specs.declared.progress.Stage.the-variants.{Opening, Running, Stopped}
 use Rattle.files.specs.declared.progress.Progress.{Progress}
-use Rattle.files.specs.Refusals.{wrongShape}
-use Rattle.files.specs.Row.{rowAnswer}
-use Rattle.files.specs.SettingsLine.{settingsLineAnswer}
+use Rattle.rows.specs.Refusals.{wrongShape}
+use Rattle.rows.specs.Row.{rowAnswer}
+use Rattle.rows.specs.SettingsLine.{settingsLineAnswer}
 use Rattle.files.specs.Output.{changeLine, endLine}
 
 -- no settings have been read yet

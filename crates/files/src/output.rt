@@ -2,7 +2,7 @@
 ghost use Prim.Native.Nat.{_+_, _≤_};
 ghost use lib.ListN.{length};
 ghost use Rattle.files.specs.Output.{pairLine, changeLine, changeRoom, endLine, endRoom};
-ghost use Rattle.files.specs.Row.{lastRow};
+ghost use Rattle.rows.specs.Row.{lastRow};
 ghost use Rattle.files.specs.device.Calls.{WroteWithin};
 ghost use Rattle.text.specs.device.Calls.{Wrote};
 use text::number::put_decimal;

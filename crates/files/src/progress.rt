@@ -3,8 +3,8 @@ ghost use mathlib.Core.Path.{_≡_};
 ghost use mathlib.Core.List.{List};
 ghost use Prim.Native.Nat.{ℕ, _+_, _≤_, _<_};
 ghost use lib.ListN.{length};
-ghost use Rattle.files.specs.Row.{lastRow};
-ghost use Rattle.files.specs.SettingsLine.{settingsLineAnswer};
+ghost use Rattle.rows.specs.Row.{lastRow};
+ghost use Rattle.rows.specs.SettingsLine.{settingsLineAnswer};
 ghost use Rattle.files.specs.Output.{changeRoom, endRoom};
 ghost use Rattle.files.specs.Progress.{freshProgress, stopped, refuse, opened, changeOf, endRefusal, endOf};
 ghost use Rattle.files.specs.Progress.{afterTick, wroteTick, afterRow, wroteRow, afterLine, wroteLine};
@@ -12,14 +12,14 @@ ghost use Rattle.files.specs.device.Calls.{WroteWithin, LineNoted};
 ghost use Rattle.text.specs.device.Calls.{Wrote};
 use crate::output::put_change;
 use crate::output::put_end;
-use crate::refusals::WRONG_SHAPE;
-use crate::row::RowRead;
-use crate::row::read_row;
-use crate::settings_line::SettingsRead;
-use crate::settings_line::read_settings_line;
 use phase::Settings;
 use relay::RelayState;
 use relay::tick::RelayTicked;
+use rows::RowRead;
+use rows::SettingsRead;
+use rows::read_row;
+use rows::read_settings_line;
+use rows::refusals::WRONG_SHAPE;
 
 // What the next line is to be; after a refusal, its number.
 pub enum Stage {

@@ -1,4 +1,4 @@
--- What an accepted call tells of its arguments, and what it and a refused one answer.
+-- What an accepted tick tells of its arguments, and what it and a refused one answer.
 -- Assumes nothing.
 use Prim.Native.Nat.{ℕ, _≤_}
 use mathlib.Core.Bool.{true, _&&_, _||_}
@@ -6,19 +6,18 @@ use mathlib.Core.List.{[], _∷_}
 use mathlib.Core.Path.{_≡_, refl, sym, _∙_, ap}
 use borrow.Author.Tests.{leb-true, eq-eqb, ne-eqb}
 use lib.Dec.{leb, eqb}
-use Rattle.checks.specs.Checks.{check, firstFailed, lowest}
-use Rattle.checks.proofs.PassedLaws.{all-passed, front-passed}
+use Rattle.checks.specs.Checks.{check, firstFailed}
+use Rattle.checks.proofs.PassedLaws.{all-passed}
 use Rattle.checks.proofs.Tests.{both-true, in-range}
 use Rattle.phase.specs.declared.settings.Settings.{Settings}
 use Rattle.phase.specs.declared.state.PhaseState.{PhaseState}
-use Rattle.phase.specs.Jump.{jumpLimit, jumpRefusal, jumpOf, refusedJump, jumpAnswer}
 use Rattle.phase.specs.Operation.{kindOf}
-use Rattle.phase.specs.Refusals.{invalidState, jumpTooLong}
+use Rattle.phase.specs.Refusals.{invalidState}
 use Rattle.phase.specs.device.Pace.{paceOf, Ready}
 use Rattle.phase.specs.Settings.{settingsChecks, settingsRefusal, tripLevel}
 use Rattle.phase.specs.device.Ranges.{InRange}
 use Rattle.phase.specs.State.{runLimit, valid, validCounts, validFor}
-use Rattle.phase.specs.Tick.{phaseChecks, tickRefusal, tickOf, refusedTick, tickAnswer}
+use Rattle.phase.specs.Tick.{tickRefusal, tickOf, refusedTick, tickAnswer}
 
 -- settings that pass the check, and what comes after them
 pub settings-passed : (settings : Settings) (rest : ℕ) → firstFailed (settingsChecks settings) rest ≡ 0 → InRange settings × (rest ≡ 0)
@@ -74,26 +73,6 @@ tick-passed settings state e =
     let s = settings-passed settings _ e in
     (s .0, all-passed (check (valid settings state) invalidState ∷ []) 0 refl (s .1) .0 .0)
 
--- an accepted jump
-pub jump-passed : (settings : Settings) (state : PhaseState) (count : ℕ) → jumpRefusal settings state count ≡ 0 → InRange settings × (valid settings state ≡ true) × (count ≤ jumpLimit)
-unfolding jumpRefusal
-jump-passed settings state count e =
-    let s = settings-passed settings _ e in
-    let own = check (valid settings state) invalidState ∷ check (leb count jumpLimit) jumpTooLong ∷ [] in
-    let (is-valid, (short, none)) = all-passed own 0 refl (s .1) .0 in
-    (s .0, is-valid, leb-true count jumpLimit short)
-
--- so a tick is accepted where a jump is
-pub jump-tick-accepted : (settings : Settings) (state : PhaseState) (count : ℕ) → jumpRefusal settings state count ≡ 0 → tickRefusal settings state ≡ 0
-unfolding jumpRefusal tickRefusal
-jump-tick-accepted settings state count e =
-    front-passed (phaseChecks settings state) (lowest (check (leb count jumpLimit) jumpTooLong ∷ [])) refl e
-
--- the jump's refusal from that of its own check
-pub jump-refusal-by-parts : (settings : Settings) (state : PhaseState) (count own all : ℕ) → own ≡ lowest (check (leb count jumpLimit) jumpTooLong ∷ []) → all ≡ firstFailed (phaseChecks settings state) own → all ≡ jumpRefusal settings state count
-unfolding jumpRefusal
-jump-refusal-by-parts settings state count own all e f = f ∙ ap (firstFailed (phaseChecks settings state)) e
-
 -- ---- the answers
 
 pub tick-accepted : (settings : Settings) (state : PhaseState) (g : ℕ) → tickRefusal settings state ≡ 0 → tickAnswer settings state g ≡ tickOf settings state g
@@ -104,12 +83,3 @@ pub tick-refused : (settings : Settings) (state : PhaseState) (g n : ℕ) → n 
 unfolding tickAnswer
 tick-refused settings state g n e h =
     rw (ne-eqb _ 0 (λ z. h (e ∙ z))) (ap (λ (k : ℕ). refusedTick k state) (sym e))
-
-pub jump-accepted : (settings : Settings) (state : PhaseState) (g count : ℕ) → jumpRefusal settings state count ≡ 0 → jumpAnswer settings state g count ≡ jumpOf settings state g count
-unfolding jumpAnswer
-jump-accepted settings state g count e = rw (eq-eqb _ 0 e)
-
-pub jump-refused : (settings : Settings) (state : PhaseState) (g count n : ℕ) → n ≡ jumpRefusal settings state count → (n ≡ 0 → ⊥) → jumpAnswer settings state g count ≡ refusedJump n state
-unfolding jumpAnswer
-jump-refused settings state g count n e h =
-    rw (ne-eqb _ 0 (λ z. h (e ∙ z))) (ap (λ (k : ℕ). refusedJump k state) (sym e))

@@ -16,11 +16,10 @@ use Rattle.phase.specs.declared.operation.Timing.{Timing}
 use Rattle.phase.specs.declared.operation.Timing.the-variants.{Definite, Curve}
 use Rattle.phase.specs.declared.settings.Settings.{Settings}
 use Rattle.phase.specs.declared.state.PhaseState.{PhaseState}
-use Rattle.phase.specs.Jump.{stateAfter}
 use Rattle.phase.specs.Operation.{kindOf}
 use Rattle.phase.specs.Settings.{tripLevel}
 use Rattle.phase.specs.State.{runLimit, clearState, valid, validCounts, validFor}
-use Rattle.phase.specs.Tick.{countUp, started, nextBy, nextState, tickRefusal}
+use Rattle.phase.specs.Tick.{countUp, started, nextBy, nextState, stateAfter, tickRefusal}
 use Rattle.phase.proofs.Accepted.{tick-passed}
 
 abbrev validBy : Settings → Kind → PhaseState → Bool

@@ -1,9 +1,5 @@
 pub mod PaceLaws
 pub mod Walk
-pub mod FirstOfLaws
-pub mod FirstTrips
-pub mod JumpMeans
 pub mod Accepted
 pub mod KeepsValid
-pub mod QuickSum
 pub mod LowestRefusals

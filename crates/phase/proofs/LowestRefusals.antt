@@ -5,7 +5,6 @@ use mathlib.Core.Path.{refl}
 use Rattle.checks.proofs.LowestLaws.{IsLowest, lowest-is-least}
 use Rattle.phase.specs.declared.settings.Settings.{Settings}
 use Rattle.phase.specs.declared.state.PhaseState.{PhaseState}
-use Rattle.phase.specs.Jump.{jumpChecks, jumpRefusal}
 use Rattle.phase.specs.Settings.{settingsChecks, settingsRefusal}
 use Rattle.phase.specs.Tick.{phaseChecks, tickRefusal}
 
@@ -16,7 +15,3 @@ settings-refusal-lowest settings = lowest-is-least (settingsChecks settings) ref
 pub tick-refusal-lowest : (settings : Settings) (state : PhaseState) → IsLowest (tickRefusal settings state) (phaseChecks settings state)
 unfolding tickRefusal
 tick-refusal-lowest settings state = lowest-is-least (phaseChecks settings state) refl
-
-pub jump-refusal-lowest : (settings : Settings) (state : PhaseState) (count : ℕ) → IsLowest (jumpRefusal settings state count) (jumpChecks settings state count)
-unfolding jumpRefusal
-jump-refusal-lowest settings state count = lowest-is-least (jumpChecks settings state count) refl

@@ -14,10 +14,9 @@ use Rattle.phase.specs.declared.operation.Timing.the-variants.{Definite,
 use Rattle.phase.specs.declared.settings.Settings.{Settings}
 use Rattle.phase.specs.declared.state.PhaseState.{PhaseState}
 use Rattle.phase.specs.device.Closed.{advanceBy, advanced}
-use Rattle.phase.specs.Jump.{stateAfter}
 use Rattle.phase.specs.Operation.{kindOf}
 use Rattle.phase.specs.State.{runLimit}
-use Rattle.phase.specs.Tick.{started, nextBy, nextState}
+use Rattle.phase.specs.Tick.{started, nextBy, nextState, stateAfter}
 
 -- equal parts, equal states
 pub same-state : {s s' r r' d d' : ℕ} → s ≡ s' → r ≡ r' → d ≡ d' → _≡_ {A = PhaseState} (record { sum = s; run = r; drop = d }) (record { sum = s'; run = r'; drop = d' })

@@ -3,5 +3,4 @@ pub mod Operation
 pub mod Settings
 pub mod State
 pub mod Tick
-pub mod Jump
 pub mod device

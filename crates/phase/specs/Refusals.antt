@@ -4,7 +4,3 @@ use Prim.Native.Nat.{ℕ}
 -- 8: "a state isn't valid"
 abbrev pub invalidState : ℕ
 invalidState = 8
-
--- 9: "a jump is over 3,600,000 ticks"
-abbrev pub jumpTooLong : ℕ
-jumpTooLong = 9

@@ -1,5 +1,5 @@
 -- One phase tick (01, 'One phase tick'), rule by rule.
-use Prim.Native.Nat.{ℕ, _+_, _-_, _*_, min}
+use Prim.Native.Nat.{ℕ, zero, suc, _+_, _-_, _*_, min}
 use mathlib.Core.Bool.{Bool, true, false, cond, _&&_}
 use mathlib.Core.List.{List, [], _∷_, _++_}
 use lib.Dec.{ltb, leb, eqb}
@@ -67,6 +67,11 @@ nextBy (On timing) false settings g state = afterIdle timing settings g state
 -- the state after a tick
 unfoldable pub nextState : Settings → PhaseState → ℕ → PhaseState
 nextState settings state g = nextBy (kindOf (settings .operation)) (started settings state g) settings g state
+
+-- the state after n ticks with the sample g
+unfoldable pub stateAfter : Settings → ℕ → ℕ → PhaseState → PhaseState
+stateAfter settings g zero state = state
+stateAfter settings g (suc n) state = nextState settings (stateAfter settings g n state) g
 
 -- the start output: 1., else 2.
 abbrev pub startBy : Kind → Bool → Bool

@@ -1,8 +1,7 @@
 // The state after n equal ticks at once, with no loop. A single tick is n = 1.
 ghost use mathlib.Core.Path.{_≡_};
 ghost use Prim.Native.Nat.{_+_, _*_, _-_, _≤_, min};
-ghost use Rattle.phase.specs.device.Closed.{countAfter, sumUpAfter, sumDownAfter, advanceBy};
-ghost use Rattle.phase.specs.Jump.{jumpLimit};
+ghost use Rattle.phase.specs.device.Closed.{mostTicks, countAfter, sumUpAfter, sumDownAfter, advanceBy};
 ghost use Rattle.phase.specs.device.Pace.{Ready};
 ghost use Rattle.phase.specs.device.Ranges.{InRange};
 ghost use Rattle.phase.specs.State.{runLimit};
@@ -16,7 +15,7 @@ use crate::settings::trip_level;
 use crate::state::PhaseState;
 
 // Whether a tick with this sample is started.
-pub(crate) fn is_started(settings: Settings, state: PhaseState, sample: u32) -> bool
+pub fn is_started(settings: Settings, state: PhaseState, sample: u32) -> bool
     requires { ⌜ InRange settings ⌝ }
     ensures { λ r. ⌜ r ≡ started settings state sample ⌝ }
 {
@@ -25,7 +24,7 @@ pub(crate) fn is_started(settings: Settings, state: PhaseState, sample: u32) -> 
 
 // A count that goes up by 1 at each of n ticks, and stops at its limit.
 fn count_after(n: u32, count: u32) -> u32
-    requires { ⌜ (n ≤ jumpLimit) × (count ≤ runLimit) ⌝ }
+    requires { ⌜ (n ≤ mostTicks) × (count ≤ runLimit) ⌝ }
     ensures { λ r. ⌜ r ≡ countAfter n count ⌝ }
 {
     let total = count + n;
@@ -38,7 +37,7 @@ fn count_after(n: u32, count: u32) -> u32
 
 // A sum that goes up by the gain at each of n ticks, and stops at the level.
 fn filled(sum: u64, gain: u64, level: u64, n: u32) -> u64
-    requires { ⌜ (sum ≤ 1500000000000) × (gain ≤ 1000000000000) × (n ≤ jumpLimit) ⌝ }
+    requires { ⌜ (sum ≤ 1500000000000) × (gain ≤ 1000000000000) × (n ≤ mostTicks) ⌝ }
     ensures { λ r. ⌜ r ≡ min (sum + n * gain) level ⌝ }
 {
     let total = sum + (n as u64) * gain;
@@ -47,7 +46,7 @@ fn filled(sum: u64, gain: u64, level: u64, n: u32) -> u64
 
 // A sum that goes down by the loss at each of n ticks, and stops at 0.
 fn drained(sum: u64, loss: u64, n: u32) -> u64
-    requires { ⌜ (loss ≤ 1000000000000) × (n ≤ jumpLimit) ⌝ }
+    requires { ⌜ (loss ≤ 1000000000000) × (n ≤ mostTicks) ⌝ }
     ensures { λ r. ⌜ r ≡ sum - n * loss ⌝ }
 {
     let total = (n as u64) * loss;
@@ -55,7 +54,7 @@ fn drained(sum: u64, loss: u64, n: u32) -> u64
 }
 
 fn sum_up_after(timing: Timing, settings: Settings, pace: Pace, n: u32, state: PhaseState) -> u64
-    requires { ⌜ Ready settings pace state × (n ≤ jumpLimit) ⌝ }
+    requires { ⌜ Ready settings pace state × (n ≤ mostTicks) ⌝ }
     ensures { λ r. ⌜ r ≡ sumUpAfter timing settings (pace .sample) n (state .sum) ⌝ }
 {
     match timing {
@@ -72,7 +71,7 @@ fn curve_down_after(
     drop: u32,
     state: PhaseState,
 ) -> u64
-    requires { ⌜ Ready settings pace state × (n ≤ jumpLimit) ⌝ }
+    requires { ⌜ Ready settings pace state × (n ≤ mostTicks) ⌝ }
     ensures { λ r. ⌜ r ≡ sumDownAfter (Timing.Curve rule) settings (pace .sample) n drop (state .sum) ⌝ }
 {
     match rule {
@@ -93,7 +92,7 @@ fn sum_down_after(
     drop: u32,
     state: PhaseState,
 ) -> u64
-    requires { ⌜ Ready settings pace state × (n ≤ jumpLimit) ⌝ }
+    requires { ⌜ Ready settings pace state × (n ≤ mostTicks) ⌝ }
     ensures { λ r. ⌜ r ≡ sumDownAfter timing settings (pace .sample) n drop (state .sum) ⌝ }
 {
     match timing {
@@ -109,7 +108,7 @@ fn advance_on(
     n: u32,
     state: PhaseState,
 ) -> PhaseState
-    requires { ⌜ Ready settings pace state × (n ≤ jumpLimit) ⌝ }
+    requires { ⌜ Ready settings pace state × (n ≤ mostTicks) ⌝ }
     ensures { λ r.
         ⌜ r ≡ advanceBy (Kind.On timing) (started settings state (pace .sample)) settings (pace .sample) n state ⌝ }
 {
@@ -125,14 +124,8 @@ fn advance_on(
 }
 
 // The state after n ticks, n above 0, of an operation of that group.
-pub(crate) fn advance(
-    kind: Kind,
-    settings: Settings,
-    pace: Pace,
-    n: u32,
-    state: PhaseState,
-) -> PhaseState
-    requires { ⌜ Ready settings pace state × (n ≤ jumpLimit) ⌝ }
+pub fn advance(kind: Kind, settings: Settings, pace: Pace, n: u32, state: PhaseState) -> PhaseState
+    requires { ⌜ Ready settings pace state × (n ≤ mostTicks) ⌝ }
     ensures { λ r. ⌜ r ≡ advanceBy kind (started settings state (pace .sample)) settings (pace .sample) n state ⌝ }
 {
     match kind {

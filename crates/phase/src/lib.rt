@@ -1,8 +1,6 @@
-// Layer 2, one phase: the settings and their check, the phase state, one tick, and the jump over many equal ticks.
-mod advance;
-mod first_trip;
-pub mod jump;
-mod operation;
+// Layer 2, one phase: the settings and their check, the phase state, and one tick.
+pub mod advance;
+pub mod operation;
 pub mod pace;
 pub mod refusals;
 pub mod settings;

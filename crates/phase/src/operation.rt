@@ -19,7 +19,7 @@ pub enum Kind {
 }
 
 // Off where the document has no such operation.
-pub(crate) fn kind_of(operation: u32) -> Kind
+pub fn kind_of(operation: u32) -> Kind
     ensures { λ r. ⌜ r ≡ kindOf operation ⌝ }
 {
     match operation {

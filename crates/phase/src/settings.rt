@@ -26,7 +26,7 @@ impl Settings {
 }
 
 // The sum at which a curve trips.
-pub(crate) fn trip_level(settings: Settings) -> u64
+pub fn trip_level(settings: Settings) -> u64
     ensures { λ r. ⌜ r ≡ tripLevel settings ⌝ }
 {
     settings.time_multiplier as u64 * 1000000000

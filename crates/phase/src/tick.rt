@@ -79,7 +79,7 @@ pub fn tick_ready(settings: Settings, pace: Pace, state: PhaseState) -> Ticked
 }
 
 // The lowest number of 1 to 8 that applies, else `rest`.
-pub(crate) fn phase_first_failed(settings: Settings, state: PhaseState, rest: u32) -> u32
+pub fn phase_first_failed(settings: Settings, state: PhaseState, rest: u32) -> u32
     ensures { λ r. ⌜ r ≡ firstFailed (phaseChecks settings state) rest ⌝ }
 {
     settings_first_failed(

@@ -2,7 +2,4 @@ pub mod Refusals
 pub mod State
 pub mod Outputs
 pub mod Tick
-pub mod Batch
-pub mod Bytes
-pub mod Border
 pub mod device

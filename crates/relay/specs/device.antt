@@ -1,3 +1,2 @@
 -- Devices of the code and of its proofs.
 pub mod Step
-pub mod Run

@@ -1,11 +1,8 @@
-// Layer 3, the relay: three phases, the decision, the batch, and the batch on bytes that the crate `border` gives to C.
-pub mod batch;
-pub mod border;
-mod bytes;
+// Layer 3, the relay: three phases, the decision, and one tick.
 mod outputs;
 pub mod refusals;
-mod state;
-mod step;
+pub mod state;
+pub mod step;
 pub mod tick;
 
 pub use state::RelayState;

@@ -26,7 +26,7 @@ impl RelayState {
     }
 }
 
-pub(crate) fn all_valid(settings: Settings, relay: RelayState) -> bool
+pub fn all_valid(settings: Settings, relay: RelayState) -> bool
     ensures { λ r. ⌜ r ≡ validRelay settings relay ⌝ }
 {
     let l1 = is_valid(settings, relay.phases[0]);
@@ -36,7 +36,7 @@ pub(crate) fn all_valid(settings: Settings, relay: RelayState) -> bool
 }
 
 // The lowest number of 1 to 8 that applies, else `rest`.
-pub(crate) fn relay_first_failed(settings: Settings, relay: RelayState, rest: u32) -> u32
+pub fn relay_first_failed(settings: Settings, relay: RelayState, rest: u32) -> u32
     ensures { λ r. ⌜ r ≡ firstFailed (relayChecks settings relay) rest ⌝ }
 {
     settings_first_failed(

@@ -22,7 +22,7 @@ pub struct Stepped {
     pub outputs: u8,
 }
 
-pub(crate) fn paces_of(settings: Settings, l1: u32, l2: u32, l3: u32) -> Paces
+pub fn paces_of(settings: Settings, l1: u32, l2: u32, l3: u32) -> Paces
     ensures { λ r. ⌜ r ≡ pacesOf settings l1 l2 l3 ⌝ }
 {
     let first = pace_of(settings, l1);
@@ -47,7 +47,7 @@ fn next_pace(settings: Settings, last: Pace, sample: u32) -> Pace
     }
 }
 
-pub(crate) fn step(
+pub fn step(
     settings: Settings,
     paces: Paces,
     relay: RelayState,

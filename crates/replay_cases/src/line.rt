@@ -5,10 +5,6 @@ pub(crate) fn say(text: &[u8]) {
     io::write_all(STDOUT_FILENO, text);
 }
 
-pub(crate) fn say_number(n: u32) {
-    io::print_decimal(STDOUT_FILENO, n as u64);
-}
-
 pub(crate) fn say_count(n: usize) {
     io::print_decimal(STDOUT_FILENO, n as u64);
 }

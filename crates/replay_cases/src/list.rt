@@ -1,17 +1,8 @@
 // A list of cases, each `name:bytes;`, on lines of their own or not.
 use crate::line::say;
-use crate::readers::row;
-use crate::readers::settings_line;
 use crate::run::replayed;
 ghost use Prim.Native.Nat.{_≤_, _<_};
 ghost use lib.ListN.{length};
-
-// What is done with the bytes of a case; of a row, with the number of the last one.
-pub enum Kind {
-    Replay,
-    Row(u32),
-    SettingsLine,
-}
 
 // The first place of a mark from a place on, or the end.
 fn find(text: &[u8], from: usize, mark: u8) -> usize
@@ -28,15 +19,6 @@ fn find(text: &[u8], from: usize, mark: u8) -> usize
     at
 }
 
-fn run(kind: Kind, name: &[u8], bytes: &[u8]) {
-    say(name);
-    match kind {
-        Kind::Replay => replayed(bytes),
-        Kind::Row(last) => row(bytes, last),
-        Kind::SettingsLine => settings_line(bytes),
-    }
-}
-
 // After the line end that stands at a place, or there.
 fn past_line_end(text: &[u8], at: usize) -> usize
     requires { ⌜ at < length (now text) ⌝ }
@@ -46,7 +28,7 @@ fn past_line_end(text: &[u8], at: usize) -> usize
 }
 
 // Runs the case that begins at a place, and answers where the next begins.
-fn run_at(kind: Kind, list: &[u8], at: usize) -> usize
+fn run_at(list: &[u8], at: usize) -> usize
     requires { ⌜ at < length (now list) ⌝ }
     ensures { λ r. ⌜ (at < r) × (r ≤ length (now (list .entry))) ⌝ }
 {
@@ -57,16 +39,17 @@ fn run_at(kind: Kind, list: &[u8], at: usize) -> usize
     }
     let start = colon + 1;
     let end = find(list, start, b';');
-    run(kind, &list[name..colon], &list[start..end]);
+    say(&list[name..colon]);
+    replayed(&list[start..end]);
     if end == list.len() {
         return end;
     }
     end + 1
 }
 
-pub(crate) fn each(kind: Kind, list: &[u8]) {
+pub(crate) fn each(list: &[u8]) {
     let mut at = 0;
     while at < list.len() {
-        at = run_at(kind, list, at);
+        at = run_at(list, at);
     }
 }

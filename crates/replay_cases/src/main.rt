@@ -4,12 +4,9 @@
 mod line;
 mod list;
 mod made_up;
-mod reader_cases;
-mod readers;
 mod room;
 mod run;
 
-use list::Kind;
 use list::each;
 
 // As bytes of the code the cases would make its check a quarter longer.
@@ -17,14 +14,11 @@ fn read_cases() {
     let mut cases = [0u8; 8192];
     let got = program::read_portion(&mut cases);
     let n = got.count;
-    each(Kind::Replay, &cases[..n]);
+    each(&cases[..n]);
 }
 
 fn main() {
     read_cases();
-    reader_cases::later_rows();
-    reader_cases::first_rows();
-    reader_cases::settings_lines();
     room::feeds();
     room::ends();
     made_up::row_without_settings();

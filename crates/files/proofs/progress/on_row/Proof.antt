@@ -2,8 +2,8 @@
 -- Assumes nothing.
 use mathlib.Core.Path.{sym, _∙_}
 use native.Mathlib.Omega.{arith}
-use Rattle.files.specs.Row.{rowAnswer}
-use Rattle.files.proofs.RowLaws.{accepted-row}
+use Rattle.rows.specs.Row.{rowAnswer}
+use Rattle.rows.proofs.RowLaws.{accepted-row}
 use Rattle.files.proofs.ProgressLaws.{accepted-output, accepted-noted, refused-noted, refused-quiet}
 use borrow.Author.Needs.{needs}
 use Rattle.files.proofs.progress.on_row.Statement.{statement}

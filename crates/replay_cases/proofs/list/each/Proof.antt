@@ -7,10 +7,10 @@ use Rattle.replay_cases.proofs.list.each.Statement.{statement}
 use Rattle.replay_cases.proofs.list.each.Tie as tie
 
 abbrev Inv-loop : tie.InvT-loop
-Inv-loop kind list at₀ at = at ≤ length list
+Inv-loop list at₀ at = at ≤ length list
 
 abbrev μ-loop : tie.MeasureT-loop
-μ-loop kind list at₀ at = length list - at
+μ-loop list at₀ at = length list - at
 
 loop-holds : tie.Need-loop-holds Inv-loop μ-loop
 loop-holds c = search needs

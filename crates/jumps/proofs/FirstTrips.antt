@@ -1,0 +1,115 @@
+-- The first of n equal ticks with the phase trip on, in closed form.
+-- Assumes nothing.
+use Prim.Native.Nat.{ℕ, zero, suc, _+_, _-_, _*_, _≤_, _<_, min, max}
+use native.Mathlib.Nat.{suc-mul, div-lt-iff-lt-mul, div-zero, mul-zero}
+use native.Mathlib.Omega.{arith}
+use mathlib.Core.Bool.{Bool, true, false, cond, _&&_}
+use mathlib.Core.Path.{_≡_, refl, ap, _∙_}
+use borrow.Author.Tests.{leb-true, le-leb, lt-leb, ltb-true, ltb-false}
+use lib.Dec.{leb, ltb, eqb, eqb·suc-zero}
+use Rattle.checks.proofs.Cases.{same-test}
+use Rattle.checks.proofs.Tests.{both-true, leb-iff}
+use Rattle.phase.specs.declared.operation.Kind.{Kind}
+use Rattle.phase.specs.declared.operation.Kind.the-variants.{Off, On}
+use Rattle.phase.specs.declared.operation.Timing.{Timing}
+use Rattle.phase.specs.declared.operation.Timing.the-variants.{Definite, Curve}
+use Rattle.phase.specs.declared.settings.Settings.{Settings}
+use Rattle.phase.specs.declared.state.PhaseState.{PhaseState}
+use Rattle.phase.specs.device.Closed.{advanceBy, advanced}
+use Rattle.jumps.specs.device.FirstTrip.{oneOf, waitFor, turns, firstFull, firstDue, firstTripBy}
+use Rattle.jumps.specs.Jump.{firstOf, tripAt, firstTrip}
+use Rattle.phase.specs.Operation.{kindOf}
+use Rattle.phase.specs.Settings.{tripLevel}
+use Rattle.phase.specs.device.Ranges.{InRange}
+use Rattle.phase.specs.State.{runLimit}
+use Rattle.phase.specs.Tick.{gainAt, started, nextState, stateAfter, phaseTrip, due, tripBy}
+use Rattle.jumps.proofs.FirstOfLaws.{first-same, first-none, first-from}
+use Rattle.phase.proofs.Walk.{started-stays, ticks-closed}
+
+-- ---- tests
+
+-- two tests joined are one test
+both-iff : (a b c d m k : ℕ) → (a ≤ b → c ≤ d → m ≤ k) → (m ≤ k → a ≤ b) → (m ≤ k → c ≤ d) → leb a b && leb c d ≡ leb m k
+both-iff a b c d m k f g h =
+    same-test (leb a b && leb c d) (leb m k)
+    (λ t. let (p, q) = both-true (leb a b) (leb c d) t in le-leb m k (f (leb-true a b p) (leb-true c d q)))
+    (λ t. let e = leb-true m k t in rw (le-leb a b (g e), le-leb c d (h e)))
+
+-- ---- from which tick on a sum is full
+
+turns-enough : (level sum gain k : ℕ) → 0 < gain → turns level sum gain ≤ k → level ≤ sum + k * gain
+turns-enough level sum gain k pos h =
+    let a : level - sum + (gain - 1) < suc k * gain = div-lt-iff-lt-mul pos .0 (omega arith) in
+    omega (arith, rw suc-mul at a)
+
+turns-least : (level sum gain k : ℕ) → 0 < gain → level ≤ sum + k * gain → turns level sum gain ≤ k
+turns-least level sum gain k pos h =
+    let a : level - sum + (gain - 1) < suc k * gain = rw suc-mul (omega arith) in
+    let b : turns level sum gain < suc k = div-lt-iff-lt-mul pos .1 a in
+    omega arith
+
+-- a quotient by 0 is 0
+pub no-turns : (level sum gain : ℕ) → gain ≡ 0 → turns level sum gain ≡ 0
+no-turns level sum gain e = rw e (div-zero (level - sum + (0 - 1)))
+
+-- the two tests of a curve's trip as one, at a gain above 0
+full-test : (level sum gain run delay k : ℕ) → delay ≤ runLimit → 0 < gain → leb level (min (sum + suc k * gain) level) && leb delay (min (run + suc k) runLimit) ≡ leb (max (waitFor delay run) (turns level sum gain)) (suc k)
+full-test level sum gain run delay k small pos =
+    both-iff level (min (sum + suc k * gain) level) delay (min (run + suc k) runLimit) (max (waitFor delay run) (turns level sum gain)) (suc k)
+    (λ a b. omega (arith, turns-least level sum gain (suc k) pos (omega arith)))
+    (λ a. omega (arith, turns-enough level sum gain (suc k) pos (omega arith)))
+    (λ a. omega arith)
+
+-- and at a gain of 0: a sum below the level stays there, a full one waits for the delay alone
+flat-never : (level sum run delay k : ℕ) → sum < level → leb level (min (sum + suc k * 0) level) && leb delay (min (run + suc k) runLimit) ≡ false
+flat-never level sum run delay k h = rw (lt-leb level (min (sum + suc k * 0) level) (omega (arith, mul-zero (suc k))))
+
+flat-test : (level sum run delay k : ℕ) → delay ≤ runLimit → level ≤ sum → leb level (min (sum + suc k * 0) level) && leb delay (min (run + suc k) runLimit) ≡ leb (max (waitFor delay run) (turns level sum 0)) (suc k)
+flat-test level sum run delay k small full =
+    both-iff level (min (sum + suc k * 0) level) delay (min (run + suc k) runLimit) (max (waitFor delay run) (turns level sum 0)) (suc k)
+    (λ a b. omega (arith, div-zero (level - sum + (0 - 1))))
+    (λ a. omega (arith, mul-zero (suc k)))
+    (λ a. omega arith)
+
+-- ---- the first trip
+
+delay-first : (delay run n : ℕ) → delay ≤ runLimit → firstOf (λ (k : ℕ). leb delay (min (run + k) runLimit)) n ≡ oneOf n (waitFor delay run)
+delay-first delay run n small =
+    first-from (λ (k : ℕ). leb delay (min (run + k) runLimit)) (waitFor delay run) n (omega arith)
+    (λ k. leb-iff delay (min (run + suc k) runLimit) (waitFor delay run) (suc k) (λ a. omega arith) (λ a. omega arith))
+
+full-first : (level sum gain run delay n : ℕ) → delay ≤ runLimit → firstOf (λ (k : ℕ). leb level (min (sum + k * gain) level) && leb delay (min (run + k) runLimit)) n ≡ firstFull n (waitFor delay run) level sum gain
+full-first level sum zero run delay n small = go (ltb sum level) refl
+  where
+    go : (b : Bool) → ltb sum level ≡ b → firstOf (λ (k : ℕ). leb level (min (sum + k * 0) level) && leb delay (min (run + k) runLimit)) n ≡ cond b 0 (oneOf n (max (waitFor delay run) (turns level sum 0)))
+    go true q = first-none _ n (λ k. flat-never level sum run delay k (ltb-true sum level q))
+    go false q = first-from _ _ n (omega arith) (λ k. flat-test level sum run delay k small (ltb-false sum level q))
+full-first level sum (suc gain) run delay n small =
+    rw (eqb·suc-zero gain)
+    (first-from _ _ n (omega arith) (λ k. full-test level sum (suc gain) run delay k small (omega arith)))
+
+due-first : (timing : Timing) (settings : Settings) (g n : ℕ) (state : PhaseState) → InRange settings → firstOf (λ (k : ℕ). due timing settings (advanceBy (On timing) true settings g k state)) n ≡ firstDue timing settings g n state
+due-first Definite settings g n state range =
+    delay-first (settings .«definite_delay») (state .run) n (range .definite-high)
+due-first (Curve rule) settings g n state range =
+    full-first (tripLevel settings) (state .sum) (gainAt settings g) (state .run) (settings .«minimum_delay») n (range .minimum-high)
+
+trip-first : (kind : Kind) (b allowed : Bool) (settings : Settings) (g n : ℕ) (state : PhaseState) → InRange settings → eqb (settings .«start_only») 0 ≡ allowed → firstOf (λ (k : ℕ). tripBy kind b settings (advanceBy kind b settings g k state)) n ≡ firstTripBy kind b settings g n state
+trip-first Off b allowed settings g n state range e = first-none _ n (λ k. refl)
+trip-first (On timing) false allowed settings g n state range e = first-none _ n (λ k. refl)
+trip-first (On timing) true false settings g n state range e = rw e (first-none _ n (λ k. refl))
+trip-first (On timing) true true settings g n state range e = rw e (due-first timing settings g n state range)
+
+-- the trip at tick k by the closed form
+trip-closed : (settings : Settings) (g : ℕ) (state : PhaseState) (k : ℕ) → tripAt settings g state (suc k) ≡ tripBy (kindOf (settings .operation)) (started settings state g) settings (advanced settings g (suc k) state)
+unfolding phaseTrip stateAfter
+trip-closed settings g state k =
+    let kind = kindOf (settings .operation) in
+    ap (λ (b : Bool). tripBy kind b settings (nextState settings (stateAfter settings g k state) g)) (started-stays settings g k state)
+    ∙ ap (λ (after : PhaseState). tripBy kind (started settings state g) settings after) (ticks-closed settings g (suc k) state (omega arith))
+
+pub first-trip-closed : (settings : Settings) (g n : ℕ) (state : PhaseState) → InRange settings → firstTrip settings g n state ≡ firstTripBy (kindOf (settings .operation)) (started settings state g) settings g n state
+unfolding firstTrip
+first-trip-closed settings g n state range =
+    first-same _ _ n (trip-closed settings g state)
+    ∙ trip-first (kindOf (settings .operation)) (started settings state g) (eqb (settings .«start_only») 0) settings g n state range refl

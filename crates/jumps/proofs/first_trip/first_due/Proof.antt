@@ -1,0 +1,51 @@
+-- `jumps::first_trip::first_due` meets its contract: by cases on the group of operations.
+-- Assumes nothing.
+use native.Mathlib.Omega.{arith}
+use borrow.Author.Needs.{needs}
+use Rattle.phase.proofs.PaceLaws.{gain-small, level-small}
+use Rattle.jumps.proofs.first_trip.first_due.Statement.{statement}
+use Rattle.jumps.proofs.first_trip.first_due.Tie as tie
+
+enum-told : tie.Need-enum-told
+enum-told c = search needs
+
+wait-for-requires : tie.Need-wait-for-requires
+wait-for-requires c κs = search needs
+
+one-of-requires : tie.Need-one-of-requires
+one-of-requires c κs = search needs
+
+enum-told-2 : tie.Need-enum-told-2
+enum-told-2 c = search needs
+
+wait-for-requires-2 : tie.Need-wait-for-requires-2
+wait-for-requires-2 c κs = search needs
+
+trip-level-requires : tie.Need-trip-level-requires
+trip-level-requires c κs = search needs
+
+first-full-requires : tie.Need-first-full-requires
+first-full-requires c κs =
+    let a = c .before .before .before .before .args in
+    let r = c .before .before .before .before .pre in
+    (omega (arith, c .trip-level .ensures, level-small (a .settings) (r .range)), gain-small (a .settings) (a .pace) (a .state) r)
+
+returns : tie.Need-returns
+returns c = rw (c .before .before .enum-told .given .1) (rw (c .one-of .ensures, c .before .wait-for .ensures))
+
+returns-2 : tie.Need-returns-2
+returns-2 c = rw (c .before .before .before .enum-told2 .given .1) (rw (c .first-full .ensures, c .before .trip-level .ensures, c .before .before .wait-for2 .ensures, c .before .before .before .before .before .pre .gain))
+
+pub first-due-spec : {M : Type 1} → statement M
+first-due-spec =
+    tie.close
+    (tie.spec
+    enum-told
+    wait-for-requires
+    one-of-requires
+    enum-told-2
+    wait-for-requires-2
+    trip-level-requires
+    first-full-requires
+    returns
+    returns-2)

@@ -1,0 +1,3 @@
+pub mod AnswerNumbers
+pub mod RowLaws
+pub mod SettingsLineLaws

@@ -1,0 +1,144 @@
+-- From the line that was read to the row's answer; and what an answer tells of its row.
+-- Assumes nothing.
+use mathlib.Core.Path.{_≡_, refl, sym, ap, _∙_}
+use mathlib.Core.Bool.{true, false}
+use mathlib.Core.List.{List, [], _∷_}
+use Prim.Native.Nat.{ℕ, _+_, _^_, _≤_, _<_}
+use native.Mathlib.Omega.{arith}
+use lib.Dec.{leb, eqb}
+use lib.ListN.{length, getD}
+use borrow.Author.Tests.{eq-eqb, ne-eqb, le-leb, lt-leb, eqb-true, leb-true}
+use Rattle.text.specs.declared.line.Line.{Line}
+use Rattle.rows.specs.declared.row.Row.{Row}
+use Rattle.rows.specs.declared.row.RowRead.{RowRead}
+use Rattle.rows.specs.declared.row.RowRead.the-variants.{Accepted, Refused}
+use Rattle.text.specs.Number.{decimal}
+use Rattle.text.specs.Line.{rightShape, numbersOf, lineAnswer, fitsIn, written}
+use Rattle.text.specs.device.Calls.{Readable}
+use Rattle.relay.specs.Refusals.{wrongBlock}
+use Rattle.rows.specs.Refusals.{wrongShape, wrongNumber}
+use Rattle.rows.specs.Row.{lastRow, rowWidths, rowOf, rowRefusal, rowAnswer, rowNumber}
+use Rattle.checks.specs.Checks.{check}
+use Rattle.checks.proofs.PassedLaws.{all-passed}
+use Rattle.rows.proofs.AnswerNumbers.{answer-number}
+use Rattle.text.proofs.DecimalLaws.{decimal-back}
+use Rattle.text.proofs.ShapeLaws.{shape-least, number-below, fits-none, fits-decimal, written-right, written-numbers}
+use Rattle.text.proofs.LineLaws.{line-shape, line-number}
+
+pub row-readable : Readable rowWidths
+row-readable = record { some = omega arith; few = omega arith; each = refl }
+
+-- ---- the answer, by the tests
+
+-- both clauses of the reader's contract
+pub row-told : (r : RowRead) (s : List ℕ) (last : ℕ) → r ≡ rowAnswer s last → (r ≡ rowAnswer s last) × (rowNumber r ≡ rowRefusal s last)
+unfolding rowAnswer
+row-told r s last e =
+    (e, ap rowNumber e ∙ answer-number rowNumber (rowRefusal s last) (Accepted (rowOf (numbersOf s))) (Refused (rowRefusal s last)) refl refl)
+
+module _ (s : List ℕ) (last : ℕ) where
+  row-refused : (n : ℕ) → rowRefusal s last ≡ n → (n ≡ 0 → ⊥) → Refused n ≡ rowAnswer s last
+  unfolding rowAnswer
+  row-refused n e k = rw (e, ne-eqb n 0 k)
+
+  module _ (r : Line) (e : r ≡ lineAnswer rowWidths s) where
+    pub row-shape : r .right ≡ false → Refused wrongShape ≡ rowAnswer s last
+    unfolding rowRefusal
+    row-shape t = row-refused wrongShape (rw (sym (line-shape rowWidths s (omega arith) r e) ∙ t)) (λ k. omega arith)
+
+    module _ (t : r .right ≡ true) where
+      -- the number of field k, and that it fits
+      row-at : (k : ℕ) → k < length rowWidths → (getD (r .numbers) k 0 ≡ getD (numbersOf s) k 0) × (getD (numbersOf s) k 0 < 10 ^ getD rowWidths k 0)
+      row-at k h = line-number rowWidths s (omega arith) r e t k (omega arith) h
+
+      pub row-fits : (k : ℕ) → k < length rowWidths → getD (r .numbers) k 0 < 10 ^ getD rowWidths k 0
+      row-fits k h = rw (row-at k h .0) (row-at k h .1)
+
+      right : rightShape rowWidths s ≡ true
+      right = sym (line-shape rowWidths s (omega arith) r e) ∙ t
+
+      pub row-number : (getD (r .numbers) 0 0 ≡ last + 1 → ⊥) → Refused wrongNumber ≡ rowAnswer s last
+      unfolding rowRefusal
+      row-number n = row-refused wrongNumber (rw (right, ← row-at 0 (omega arith) .0, ne-eqb (getD (r .numbers) 0 0) (last + 1) n)) (λ k. omega arith)
+
+      module _ (n : getD (r .numbers) 0 0 ≡ last + 1) where
+        pub row-block : 1 < getD (r .numbers) 5 0 → Refused wrongBlock ≡ rowAnswer s last
+        unfolding rowRefusal
+        row-block b =
+            row-refused wrongBlock
+            (rw (right, ← row-at 0 (omega arith) .0, eq-eqb (getD (r .numbers) 0 0) (last + 1) n, ← row-at 5 (omega arith) .0, lt-leb (getD (r .numbers) 5 0) 1 b))
+            (λ k. omega arith)
+
+        module _ (b : getD (r .numbers) 5 0 ≤ 1) where
+          none : rowRefusal s last ≡ 0
+          unfolding rowRefusal
+          none = rw (right, ← row-at 0 (omega arith) .0, eq-eqb (getD (r .numbers) 0 0) (last + 1) n, ← row-at 5 (omega arith) .0, le-leb (getD (r .numbers) 5 0) 1 b)
+
+          same : rowOf (r .numbers) ≡ rowOf (numbersOf s)
+          same = rw (row-at 0 (omega arith) .0, row-at 2 (omega arith) .0, row-at 3 (omega arith) .0, row-at 4 (omega arith) .0, row-at 5 (omega arith) .0)
+
+          pub row-accepted : Accepted (rowOf (r .numbers)) ≡ rowAnswer s last
+          unfolding rowAnswer
+          row-accepted = rw (none, same)
+
+-- ---- an accepted row
+
+-- a digit in each of six fields, five commas, CR LF
+abbrev pub shortestRow : ℕ
+shortestRow = 13
+
+-- it has at least so many bytes; its number is one of six digits, and its block is 0 or 1
+pub record AcceptedRow (s : List ℕ) (last : ℕ) (x : Row) : Type 0 where
+  pub long : shortestRow ≤ length s
+  pub number : last + 1 ≤ lastRow
+  pub block : x .block ≤ 1
+
+pub accepted-row : (s : List ℕ) (last : ℕ) (x : Row) → rowAnswer s last ≡ Accepted x → AcceptedRow s last x
+unfolding rowAnswer rowRefusal
+accepted-row s last x e =
+    let n = getD (numbersOf s) 0 0 in
+    let block = getD (numbersOf s) 5 0 in
+    let checks = check (rightShape rowWidths s) wrongShape ∷ check (eqb n (last + 1)) wrongNumber ∷ check (leb block 1) wrongBlock ∷ [] in
+    let none : rowRefusal s last ≡ 0 = sym (row-told (Accepted x) s last (sym e) .1) in
+    let (shape, (next, (free, end))) = all-passed checks 0 refl none .0 in
+    let same : rowOf (numbersOf s) ≡ x = cc in
+    record {
+      long = omega (arith, shape-least rowWidths s (omega arith) shape);
+      number = omega (arith, eqb-true n (last + 1) next, number-below rowWidths s (omega arith) shape 0);
+      block = rw (← same) (leb-true block 1 free);
+    }
+
+-- after row 999,999 no row is right
+pub no-row-after-last : (s : List ℕ) (x : Row) → rowAnswer s lastRow ≡ Accepted x → ⊥
+no-row-after-last s x e = let k = accepted-row s lastRow x e .number in omega arith
+
+-- ---- a row that is written in decimals is read back
+
+module _ (last stamp a b c block : ℕ) (n : last + 1 ≤ lastRow) (t : stamp ≤ 9999999999) (ka : a ≤ 9999999) (kb : b ≤ 9999999) (kc : c ≤ 9999999) (kd : block ≤ 1) where
+  abbrev fields : List (List ℕ)
+  fields = decimal (last + 1) ∷ decimal stamp ∷ decimal a ∷ decimal b ∷ decimal c ∷ decimal block ∷ []
+
+  fields-fit : fitsIn rowWidths fields ≡ true
+  fields-fit =
+      fits-decimal 5 (last + 1) _ _ (omega arith) (omega arith)
+      (fits-decimal 9 stamp _ _ (omega arith) (omega arith)
+      (fits-decimal 6 a _ _ (omega arith) (omega arith)
+      (fits-decimal 6 b _ _ (omega arith) (omega arith)
+      (fits-decimal 6 c _ _ (omega arith) (omega arith)
+      (fits-decimal 0 block _ _ (omega arith) (omega arith) fits-none)))))
+
+  fields-numbers : numbersOf (written fields) ≡ (last + 1) ∷ stamp ∷ a ∷ b ∷ c ∷ block ∷ []
+  fields-numbers =
+      written-numbers 6 _ fields fields-fit
+      ∙ rw (
+        decimal-back (last + 1) (omega arith),
+        decimal-back stamp (omega arith),
+        decimal-back a (omega arith),
+        decimal-back b (omega arith),
+        decimal-back c (omega arith),
+        decimal-back block (omega arith),
+      )
+
+  pub row-back : rowAnswer (written fields) last ≡ Accepted (record { number = last + 1; l1 = a; l2 = b; l3 = c; block = block })
+  unfolding rowAnswer rowRefusal
+  row-back = rw (written-right 6 _ fields fields-fit, fields-numbers, eq-eqb (last + 1) (last + 1) refl, le-leb block 1 kd)

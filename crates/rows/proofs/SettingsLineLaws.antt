@@ -1,0 +1,67 @@
+-- From the line that was read to the settings line's answer.
+-- Assumes nothing.
+use mathlib.Core.Path.{_≡_, refl, sym, ap, _∙_}
+use mathlib.Core.Bool.{true, false}
+use mathlib.Core.List.{List}
+use Prim.Native.Nat.{ℕ, _^_, _<_}
+use native.Mathlib.Omega.{arith}
+use lib.ListN.{length, getD}
+use borrow.Author.Tests.{ne-eqb}
+use Rattle.phase.specs.Settings.{settingsRefusal}
+use Rattle.text.specs.declared.line.Line.{Line}
+use Rattle.rows.specs.declared.settings_line.SettingsRead.{SettingsRead}
+use Rattle.rows.specs.declared.settings_line.SettingsRead.the-variants.{Accepted, Refused}
+use Rattle.text.specs.Line.{numbersOf, lineAnswer}
+use Rattle.text.specs.device.Calls.{Readable}
+use Rattle.rows.specs.Refusals.{wrongShape}
+use Rattle.rows.specs.SettingsLine.{settingsWidths, settingsIn, settingsLineRefusal, settingsLineAnswer, settingsLineNumber}
+use Rattle.rows.proofs.AnswerNumbers.{answer-number}
+use Rattle.text.proofs.LineLaws.{line-shape, line-number}
+
+pub settings-readable : Readable settingsWidths
+settings-readable = record { some = omega arith; few = omega arith; each = refl }
+
+-- both clauses of the reader's contract
+pub settings-told : (r : SettingsRead) (s : List ℕ) → r ≡ settingsLineAnswer s → (r ≡ settingsLineAnswer s) × (settingsLineNumber r ≡ settingsLineRefusal s)
+unfolding settingsLineAnswer
+settings-told r s e =
+    (e, ap settingsLineNumber e ∙ answer-number settingsLineNumber (settingsLineRefusal s) (Accepted (settingsIn (numbersOf s))) (Refused (settingsLineRefusal s)) refl refl)
+
+pub settings-refused : (s : List ℕ) (n : ℕ) → settingsLineRefusal s ≡ n → (n ≡ 0 → ⊥) → Refused n ≡ settingsLineAnswer s
+unfolding settingsLineAnswer
+settings-refused s n e k = rw (e, ne-eqb n 0 k)
+
+module _ (s : List ℕ) (r : Line) (e : r ≡ lineAnswer settingsWidths s) where
+  pub settings-shape : r .right ≡ false → Refused wrongShape ≡ settingsLineAnswer s
+  unfolding settingsLineRefusal
+  settings-shape t = settings-refused s wrongShape (rw (sym (line-shape settingsWidths s (omega arith) r e) ∙ t)) (λ k. omega arith)
+
+  module _ (t : r .right ≡ true) where
+    settings-at : (k : ℕ) → k < length settingsWidths → (getD (r .numbers) k 0 ≡ getD (numbersOf s) k 0) × (getD (numbersOf s) k 0 < 10 ^ getD settingsWidths k 0)
+    settings-at k h = line-number settingsWidths s (omega arith) r e t k (omega arith) h
+
+    pub settings-fits : (k : ℕ) → k < length settingsWidths → getD (r .numbers) k 0 < 10 ^ getD settingsWidths k 0
+    settings-fits k h = rw (settings-at k h .0) (settings-at k h .1)
+
+    same : settingsIn (r .numbers) ≡ settingsIn (numbersOf s)
+    same =
+        rw (
+          settings-at 0 (omega arith) .0,
+          settings-at 1 (omega arith) .0,
+          settings-at 2 (omega arith) .0,
+          settings-at 3 (omega arith) .0,
+          settings-at 4 (omega arith) .0,
+          settings-at 5 (omega arith) .0,
+          settings-at 6 (omega arith) .0,
+        )
+
+    checked : settingsLineRefusal s ≡ settingsRefusal (settingsIn (r .numbers))
+    unfolding settingsLineRefusal
+    checked = rw (sym (line-shape settingsWidths s (omega arith) r e) ∙ t, same)
+
+    pub settings-checked : (n : ℕ) → n ≡ settingsRefusal (settingsIn (r .numbers)) → (n ≡ 0 → ⊥) → Refused n ≡ settingsLineAnswer s
+    settings-checked n q k = settings-refused s n (checked ∙ sym q) k
+
+    pub settings-accepted : settingsRefusal (settingsIn (r .numbers)) ≡ 0 → Accepted (settingsIn (r .numbers)) ≡ settingsLineAnswer s
+    unfolding settingsLineAnswer
+    settings-accepted q = rw (checked ∙ q, same)

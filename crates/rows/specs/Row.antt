@@ -1,0 +1,43 @@
+-- A data row (01, 'Rows and the replay program').
+use mathlib.Core.Bool.{cond}
+use mathlib.Core.List.{List, [], _∷_}
+use Prim.Native.Nat.{ℕ, _+_}
+use lib.Dec.{leb, eqb}
+use lib.ListN.{getD}
+use Rattle.rows.specs.declared.row.Row.{Row}
+use Rattle.rows.specs.declared.row.RowRead.{RowRead}
+use Rattle.rows.specs.declared.row.RowRead.the-variants.{Accepted, Refused}
+use Rattle.relay.specs.Refusals.{wrongBlock}
+use Rattle.rows.specs.Refusals.{wrongShape, wrongNumber}
+use Rattle.text.specs.Line.{rightShape, numbersOf}
+
+-- "number, timestamp, L1, L2, L3, block": "Digits only, at most 6, 10, 7, 7, 7 and 1 of them"
+abbrev pub rowWidths : List ℕ
+rowWidths = 6 ∷ 10 ∷ 7 ∷ 7 ∷ 7 ∷ 1 ∷ []
+
+-- the largest number of six digits
+abbrev pub lastRow : ℕ
+lastRow = 999999
+
+-- "The timestamp is read and ignored."
+abbrev pub rowOf : List ℕ → Row
+rowOf ns = record { number = getD ns 0 0; l1 = getD ns 2 0; l2 = getD ns 3 0; l3 = getD ns 4 0; block = getD ns 5 0 }
+
+-- The lowest number that applies, after a row of number `last`: 12 whatever the rest, for "a line's numbers are looked at
+-- only if its shape is right"; 13 where the number "isn't one more than the last"; 14 where the block field "isn't 0 or 1".
+unfoldable pub rowRefusal : List ℕ → ℕ → ℕ
+rowRefusal s last =
+    cond (rightShape rowWidths s)
+    (cond (eqb (rowOf (numbersOf s) .number) (last + 1))
+    (cond (leb (rowOf (numbersOf s) .block) 1) 0 wrongBlock)
+    wrongNumber)
+    wrongShape
+
+-- what the reader of rows answers
+unfoldable pub rowAnswer : List ℕ → ℕ → RowRead
+rowAnswer s last = cond (eqb (rowRefusal s last) 0) (Accepted (rowOf (numbersOf s))) (Refused (rowRefusal s last))
+
+-- the paper's number for each case of the answer
+abbrev pub rowNumber : RowRead → ℕ
+rowNumber (Accepted row) = 0
+rowNumber (Refused n) = n

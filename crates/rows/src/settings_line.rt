@@ -1,0 +1,38 @@
+// The settings line: the seven settings, in the order of document 01's table.
+ghost use mathlib.Core.Path.{_≡_};
+ghost use Rattle.rows.specs.SettingsLine.{settingsLineRefusal, settingsLineAnswer, settingsLineNumber};
+use crate::refusals::WRONG_SHAPE;
+use phase::Settings;
+use text::line::read_line;
+
+pub enum SettingsRead {
+    Accepted(Settings),
+    Refused(u32),
+}
+
+// Reads the settings line that these bytes are.
+pub fn read_settings_line(line: &[u8]) -> SettingsRead
+    ensures answer { λ r. ⌜ r ≡ settingsLineAnswer (now (line .entry)) ⌝ }
+    ensures number { λ r. ⌜ settingsLineNumber r ≡ settingsLineRefusal (now (line .entry)) ⌝ }
+{
+    let widths = [5usize, 5, 5, 5, 5, 5, 5];
+    let l = read_line(line, &widths);
+    if !l.right {
+        return SettingsRead::Refused(WRONG_SHAPE);
+    }
+    let n = l.numbers;
+    let settings = Settings {
+        operation: n[0] as u32,
+        start_current: n[1] as u32,
+        time_multiplier: n[2] as u32,
+        minimum_delay: n[3] as u32,
+        definite_delay: n[4] as u32,
+        reset_time: n[5] as u32,
+        start_only: n[6] as u32,
+    };
+    let refusal = settings.check();
+    if refusal != 0 {
+        return SettingsRead::Refused(refusal);
+    }
+    SettingsRead::Accepted(settings)
+}
