@@ -10,8 +10,6 @@ use Rattle.phase.specs.Settings.{settingsRefusal}
 use Rattle.relay.specs.State.{clearRelay, validRelay}
 use Rattle.relay.specs.declared.tick.RelayTicked.{RelayTicked}
 use Rattle.relay.specs.Tick.{relayTickRefusal}
-use Rattle.checks.specs.Checks.{check}
-use Rattle.checks.proofs.PassedLaws.{all-passed}
 use Rattle.relay.proofs.RelayLaws.{clear-relay-is-valid, relay-tick-allowed, relay-tick-accepted, relay-tick-keeps-valid}
 use Rattle.files.specs.declared.progress.Progress.{Progress}
 use Rattle.files.specs.declared.progress.Stage.{Stage}
@@ -21,22 +19,11 @@ use Rattle.rows.specs.declared.row.RowRead.{RowRead}
 use Rattle.rows.specs.declared.row.RowRead.the-variants as row
 use Rattle.rows.specs.declared.settings_line.SettingsRead.{SettingsRead}
 use Rattle.rows.specs.declared.settings_line.SettingsRead.the-variants as settings-line
-use Rattle.text.specs.Line.{rightShape, numbersOf}
-use Rattle.rows.specs.Refusals.{wrongShape}
 use Rattle.files.specs.Progress.{freshProgress, opened, ticked, rowDone, afterTick, stepped, afterBy, afterLine}
 use Rattle.rows.specs.Row.{rowAnswer}
-use Rattle.rows.specs.SettingsLine.{settingsWidths, settingsIn, settingsLineRefusal, settingsLineAnswer}
+use Rattle.rows.specs.SettingsLine.{settingsLineAnswer}
 use Rattle.rows.proofs.RowLaws.{accepted-row}
-use Rattle.rows.proofs.SettingsLineLaws.{settings-told}
-
--- ---- what an accepted settings line tells
-
-accepted-line : (s : List ℕ) (x : Settings) → settingsLineAnswer s ≡ settings-line.Accepted x → settingsRefusal x ≡ 0
-unfolding settingsLineAnswer settingsLineRefusal
-accepted-line s x e =
-    let none : settingsLineRefusal s ≡ 0 = sym (settings-told (settings-line.Accepted x) s (sym e) .1) in
-    let same : settingsIn (numbersOf s) ≡ x = cc in
-    rw (← same) (all-passed (check (rightShape settingsWidths s) wrongShape ∷ []) (settingsRefusal (settingsIn (numbersOf s))) refl none .1)
+use Rattle.rows.proofs.SettingsLineLaws.{accepted-settings-pass}
 
 -- ---- what every line keeps
 
@@ -69,7 +56,7 @@ stepped-right p (row.Refused n) right h = tt
 
 line-keeps : (stage : Stage) (p : Progress) (l : List ℕ) → p .stage ≡ stage → Right stage p → let q : Progress = afterBy stage p l in Right (q .stage) q
 unfolding afterBy
-line-keeps Opening p l s right = opened-right p (settingsLineAnswer l) right (λ x. accepted-line l x)
+line-keeps Opening p l s right = opened-right p (settingsLineAnswer l) right (λ x. accepted-settings-pass l x)
 line-keeps Running p l s right = stepped-right p (rowAnswer l (p .done)) right (λ x e. accepted-row l (p .done) x e .block)
 line-keeps (Stopped n) p l s right = rw s right
 

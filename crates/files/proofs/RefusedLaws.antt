@@ -10,8 +10,10 @@ use Rattle.files.specs.declared.progress.Stage.{Stage}
 use Rattle.files.specs.declared.progress.Stage.the-variants.{Opening, Running, Stopped}
 use Rattle.files.specs.declared.progress.Progress.{Progress}
 use Rattle.text.specs.Line.{endsCrLf, rightShape}
-use Rattle.rows.specs.Row.{rowWidths, rowRefusal, rowAnswer}
-use Rattle.rows.specs.SettingsLine.{settingsWidths, settingsLineRefusal, settingsLineAnswer}
+use Rattle.rows.specs.Row.{rowWidths}
+use Rattle.rows.specs.SettingsLine.{settingsWidths}
+use Rattle.rows.proofs.RowLaws.{row-misshapen}
+use Rattle.rows.proofs.SettingsLineLaws.{settings-misshapen, settings-refused}
 use Rattle.text.specs.declared.lines.Closer.the-variants.{CrLf}
 use Rattle.text.specs.Lines.{linesFrom}
 use Rattle.rows.specs.Refusals.{wrongShape}
@@ -43,15 +45,15 @@ open-misshapen l h = record {
 }
 
 misshapen-after : (g : Stage) (p : Progress) (l : List ℕ) → Misshapen l → afterBy g p l ≡ refuseBy g p
-unfolding afterBy refuseBy rowAnswer rowRefusal settingsLineAnswer settingsLineRefusal
-misshapen-after Opening p l h = rw (h .no-settings)
-misshapen-after Running p l h = rw (h .no-row)
+unfolding afterBy refuseBy
+misshapen-after Opening p l h = rw (← settings-refused l wrongShape (settings-misshapen l (h .no-settings)) (λ k. omega arith))
+misshapen-after Running p l h = rw (row-misshapen l (p .done) (h .no-row))
 misshapen-after (Stopped n) p l h = refl
 
 misshapen-wrote : (g : Stage) (p : Progress) (l : List ℕ) → Misshapen l → wroteBy g p l ≡ []
-unfolding wroteBy rowAnswer rowRefusal
+unfolding wroteBy
 misshapen-wrote Opening p l h = refl
-misshapen-wrote Running p l h = rw (h .no-row)
+misshapen-wrote Running p l h = rw (row-misshapen l (p .done) (h .no-row))
 misshapen-wrote (Stopped n) p l h = refl
 
 -- ---- a replay that has stopped writes its end line and nothing else

@@ -6,11 +6,10 @@ use mathlib.Core.List.{List, [], _∷_, append-nil}
 use Prim.Native.Nat.{ℕ, _<_}
 use native.Mathlib.Omega.{arith}
 use lib.ListN.{length}
-use Rattle.phase.specs.Settings.{settingsRefusal}
 use Rattle.rows.specs.declared.settings_line.SettingsRead.{SettingsRead}
 use Rattle.rows.specs.declared.settings_line.SettingsRead.the-variants.{Accepted}
 use Rattle.files.specs.declared.progress.Progress.{Progress}
-use Rattle.text.specs.Line.{numbersOf, rightShape}
+use Rattle.text.specs.Line.{numbersOf}
 use Rattle.rows.specs.SettingsLine.{settingsWidths, settingsIn, settingsLineRefusal, settingsLineAnswer}
 use Rattle.files.specs.Output.{endLine}
 use Rattle.text.specs.declared.lines.Closer.the-variants.{CrLf}
@@ -18,10 +17,8 @@ use Rattle.text.specs.Lines.{linesOf}
 use Rattle.rows.specs.Refusals.{wrongShape}
 use Rattle.files.specs.Progress.{freshProgress, stopped, opened, afterBy, wroteBy, endRefusal, endOf}
 use Rattle.files.specs.Replay.{byLines, replayOf}
-use Rattle.checks.specs.Checks.{check}
-use Rattle.checks.proofs.PassedLaws.{all-passed}
-use Rattle.rows.proofs.SettingsLineLaws.{settings-refused}
-use Rattle.files.proofs.RefusedLaws.{Misshapen, open-misshapen, stopped-ends}
+use Rattle.rows.proofs.SettingsLineLaws.{settings-refused, settings-misshapen, settings-answer, settings-line-passed}
+use Rattle.files.proofs.RefusedLaws.{open-misshapen, stopped-ends}
 use Rattle.text.proofs.CutLaws.{lines-nil, last-nothing, last-line}
 use Rattle.text.proofs.LinesLaws.{hasCrLf, has-ends, open-input, line-first}
 
@@ -52,27 +49,14 @@ pub replay-of-refused-settings : (s l : List ℕ) (ls : List (List ℕ)) (n : �
 unfolding replayOf
 replay-of-refused-settings s l ls n e h k = ap (byLines freshProgress) e ∙ refused-opening l ls n h k
 
-misshapen-settings : (l : List ℕ) → Misshapen l → settingsLineRefusal l ≡ wrongShape
-unfolding settingsLineRefusal
-misshapen-settings l h = rw (h .no-settings)
-
 -- an input without CR LF, such as a settings line that is not closed
 pub replay-of-open-line : (s : List ℕ) → 0 < length s → hasCrLf s ≡ false → replayOf s ≡ endLine 0 wrongShape
 replay-of-open-line s h k =
-    replay-of-refused-settings s s [] wrongShape (open-input s k ∙ last-line s h) (misshapen-settings s (open-misshapen s (has-ends s k))) (λ e. omega arith)
-
-accepted-settings : (l : List ℕ) → settingsLineRefusal l ≡ 0 → settingsLineAnswer l ≡ Accepted (settingsIn (numbersOf l))
-unfolding settingsLineAnswer
-accepted-settings l e = rw e
-
-accepted-shape : (l : List ℕ) → settingsLineRefusal l ≡ 0 → rightShape settingsWidths l ≡ true
-unfolding settingsLineRefusal
-accepted-shape l e =
-    all-passed (check (rightShape settingsWidths l) wrongShape ∷ []) (settingsRefusal (settingsIn (numbersOf l))) refl e .0 .0
+    replay-of-refused-settings s s [] wrongShape (open-input s k ∙ last-line s h) (settings-misshapen s (open-misshapen s (has-ends s k) .no-settings)) (λ e. omega arith)
 
 lines-one : (l : List ℕ) → settingsLineRefusal l ≡ 0 → linesOf CrLf l ≡ l ∷ []
 lines-one l e =
-    ap (linesOf CrLf) (sym (append-nil l)) ∙ line-first settingsWidths l [] (accepted-shape l e) ∙ rw (lines-nil CrLf [], last-nothing)
+    ap (linesOf CrLf) (sym (append-nil l)) ∙ line-first settingsWidths l [] (settings-line-passed l e .0) ∙ rw (lines-nil CrLf [], last-nothing)
 
 end-running : (l : List ℕ) → byLines (opened freshProgress (Accepted (settingsIn (numbersOf l)))) [] ≡ endLine 0 0
 unfolding byLines endRefusal
@@ -84,5 +68,5 @@ unfolding replayOf
 replay-of-settings-alone l e =
     ap (byLines freshProgress) (lines-one l e)
     ∙ opening l []
-    ∙ ap (λ (a : SettingsRead). byLines (opened freshProgress a) []) (accepted-settings l e)
+    ∙ ap (λ (a : SettingsRead). byLines (opened freshProgress a) []) (settings-answer l e)
     ∙ end-running l

@@ -81,7 +81,11 @@ module _ (s : List ℕ) (last : ℕ) where
           unfolding rowAnswer
           row-accepted = rw (none, same)
 
--- ---- an accepted row
+-- ---- a line of another shape, and an accepted row
+
+pub row-misshapen : (s : List ℕ) (last : ℕ) → rightShape rowWidths s ≡ false → rowAnswer s last ≡ Refused wrongShape
+unfolding rowRefusal
+row-misshapen s last h = sym (row-refused s last wrongShape (rw h) (λ k. omega arith))
 
 -- a digit in each of six fields, five commas, CR LF
 abbrev pub shortestRow : ℕ

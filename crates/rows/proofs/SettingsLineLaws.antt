@@ -2,19 +2,22 @@
 -- Assumes nothing.
 use mathlib.Core.Path.{_≡_, refl, sym, ap, _∙_}
 use mathlib.Core.Bool.{true, false}
-use mathlib.Core.List.{List}
+use mathlib.Core.List.{List, [], _∷_}
 use Prim.Native.Nat.{ℕ, _^_, _<_}
 use native.Mathlib.Omega.{arith}
 use lib.ListN.{length, getD}
 use borrow.Author.Tests.{ne-eqb}
+use Rattle.phase.specs.declared.settings.Settings.{Settings}
 use Rattle.phase.specs.Settings.{settingsRefusal}
 use Rattle.text.specs.declared.line.Line.{Line}
 use Rattle.rows.specs.declared.settings_line.SettingsRead.{SettingsRead}
 use Rattle.rows.specs.declared.settings_line.SettingsRead.the-variants.{Accepted, Refused}
-use Rattle.text.specs.Line.{numbersOf, lineAnswer}
+use Rattle.text.specs.Line.{rightShape, numbersOf, lineAnswer}
 use Rattle.text.specs.device.Calls.{Readable}
 use Rattle.rows.specs.Refusals.{wrongShape}
 use Rattle.rows.specs.SettingsLine.{settingsWidths, settingsIn, settingsLineRefusal, settingsLineAnswer, settingsLineNumber}
+use Rattle.checks.specs.Checks.{check}
+use Rattle.checks.proofs.PassedLaws.{all-passed}
 use Rattle.rows.proofs.AnswerNumbers.{answer-number}
 use Rattle.text.proofs.LineLaws.{line-shape, line-number}
 
@@ -65,3 +68,27 @@ module _ (s : List ℕ) (r : Line) (e : r ≡ lineAnswer settingsWidths s) where
     pub settings-accepted : settingsRefusal (settingsIn (r .numbers)) ≡ 0 → Accepted (settingsIn (r .numbers)) ≡ settingsLineAnswer s
     unfolding settingsLineAnswer
     settings-accepted q = rw (checked ∙ q, same)
+
+-- ---- a line of another shape, and an accepted one
+
+pub settings-misshapen : (s : List ℕ) → rightShape settingsWidths s ≡ false → settingsLineRefusal s ≡ wrongShape
+unfolding settingsLineRefusal
+settings-misshapen s h = rw h
+
+pub settings-answer : (s : List ℕ) → settingsLineRefusal s ≡ 0 → settingsLineAnswer s ≡ Accepted (settingsIn (numbersOf s))
+unfolding settingsLineAnswer
+settings-answer s e = rw e
+
+-- it has the shape, and its settings pass their check
+pub settings-line-passed : (s : List ℕ) → settingsLineRefusal s ≡ 0 → (rightShape settingsWidths s ≡ true) × (settingsRefusal (settingsIn (numbersOf s)) ≡ 0)
+unfolding settingsLineRefusal
+settings-line-passed s e =
+    let (shape, settings) = all-passed (check (rightShape settingsWidths s) wrongShape ∷ []) (settingsRefusal (settingsIn (numbersOf s))) refl e in
+    (shape .0, settings)
+
+pub accepted-settings-pass : (s : List ℕ) (x : Settings) → settingsLineAnswer s ≡ Accepted x → settingsRefusal x ≡ 0
+accepted-settings-pass s x e =
+    let none : settingsLineRefusal s ≡ 0 = sym (settings-told (Accepted x) s (sym e) .1) in
+    let same : Accepted (settingsIn (numbersOf s)) ≡ Accepted x = sym (settings-answer s none) ∙ e in
+    let inside : settingsIn (numbersOf s) ≡ x = cc in
+    rw (← inside) (settings-line-passed s none .1)
