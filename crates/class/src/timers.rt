@@ -1,6 +1,5 @@
 // The class examples on timers: what a delay of 0 does.
 use crate::line::say;
-use crate::line::verdict;
 use timer::Combination;
 use timer::Inputs;
 use timer::TimerState;

@@ -3,7 +3,7 @@
 use Prim.Native.Nat.{ℕ, _≤_}
 use mathlib.Core.Bool.{true}
 use mathlib.Core.List.{List, [], _∷_}
-use mathlib.Core.Path.{_≡_, refl, sym, ap}
+use mathlib.Core.Path.{_≡_, refl, ap}
 use borrow.Author.Tests.{eq-eqb}
 use Rattle.phase.specs.declared.settings.Settings.{Settings}
 use Rattle.phase.specs.Settings.{settingsRefusal}
@@ -20,6 +20,7 @@ use Rattle.rows.specs.declared.row.RowRead.the-variants as row
 use Rattle.rows.specs.declared.settings_line.SettingsRead.{SettingsRead}
 use Rattle.rows.specs.declared.settings_line.SettingsRead.the-variants as settings-line
 use Rattle.files.specs.Progress.{freshProgress, opened, ticked, rowDone, afterTick, stepped, afterBy, afterLine}
+use Rattle.files.specs.Replay.{afterLines}
 use Rattle.rows.specs.Row.{rowAnswer}
 use Rattle.rows.specs.SettingsLine.{settingsLineAnswer}
 use Rattle.rows.proofs.RowLaws.{accepted-row}
@@ -60,11 +61,8 @@ line-keeps Opening p l s right = opened-right p (settingsLineAnswer l) right (λ
 line-keeps Running p l s right = stepped-right p (rowAnswer l (p .done)) right (λ x e. accepted-row l (p .done) x e .block)
 line-keeps (Stopped n) p l s right = rw s right
 
-abbrev pub afterLines : Progress → List (List ℕ) → Progress
-afterLines p [] = p
-afterLines p (l ∷ ls) = afterLines (afterLine p l) ls
-
 lines-keep : (p : Progress) (ls : List (List ℕ)) → Right (p .stage) p → Right (afterLines p ls .stage) (afterLines p ls)
+unfolding afterLines
 lines-keep p [] right = right
 lines-keep p (l ∷ ls) right = lines-keep (afterLine p l) ls (line-keeps (p .stage) p l refl right)
 

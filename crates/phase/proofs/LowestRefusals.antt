@@ -1,6 +1,5 @@
 -- Each call's refusal is the lowest number that applies: its checks stand in the order of their numbers.
 -- Assumes nothing.
-use Prim.Native.Nat.{ℕ}
 use mathlib.Core.Path.{refl}
 use Rattle.checks.proofs.LowestLaws.{IsLowest, lowest-is-least}
 use Rattle.phase.specs.declared.settings.Settings.{Settings}
