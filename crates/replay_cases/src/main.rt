@@ -9,7 +9,7 @@ mod run;
 
 use list::each;
 
-// As bytes of the code the cases would make its check a quarter longer.
+// As bytes of the code the cases would make its check longer.
 fn read_cases() {
     let mut cases = [0u8; 8192];
     let got = program::read_portion(&mut cases);
