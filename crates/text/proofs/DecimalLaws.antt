@@ -55,17 +55,16 @@ unfolding valueFrom
 value-one v = omega arith
 
 -- the number comes back
-pub value-decimal : (n v : ℕ) → v < 10 ^ suc n → valueOf (decimalIn n v) ≡ v
+pub value-decimal : (n v : ℕ) → valueOf (decimalIn n v) ≡ v
 unfolding decimalIn
-value-decimal zero v h = value-one v
-value-decimal (suc n) v h =
-    let k : v < 10 ^ suc n * 10 = rw (pow-suc 10 (suc n)) at h in
+value-decimal zero v = value-one v
+value-decimal (suc n) v =
     by-cond (λ (l : List ℕ). valueOf l ≡ v) (ltb v 10) ((48 + v) ∷ []) (decimalIn n (v / 10) ++ ((48 + v % 10) ∷ []))
     (λ e. value-one v)
-    (λ e. rw (value-snoc 0 (decimalIn n (v / 10)) (48 + v % 10), value-decimal n (v / 10) (omega arith)) (omega arith))
+    (λ e. rw (value-snoc 0 (decimalIn n (v / 10)) (48 + v % 10), value-decimal n (v / 10)) (omega arith))
 
 pub decimal-back : (v : ℕ) → v < 10000000000 → valueOf (decimal v) ≡ v
-decimal-back v h = value-decimal 9 v (omega arith)
+decimal-back v h = value-decimal 9 v
 
 -- ---- stores one after the other
 

@@ -5,6 +5,7 @@ pub mod DecimalLaws
 pub mod ScanLaws
 pub mod ShapeLaws
 pub mod LineLaws
+pub mod DecimalsLaws
 pub mod LinesLaws
 pub mod CutLaws
 pub mod CuttingLaws

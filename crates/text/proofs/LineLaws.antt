@@ -2,14 +2,15 @@
 -- Assumes nothing.
 use mathlib.Core.Path.{_≡_, refl, sym, ap, _∙_}
 use mathlib.Core.Bool.{true, false}
-use mathlib.Core.List.{List, [], _∷_}
+use mathlib.Core.List.{List, [], _∷_, _++_}
 use Prim.Native.Nat.{ℕ, suc, _^_, _≤_, _<_}
 use native.Mathlib.Omega.{arith}
-use lib.ListN.{length, getD, replicate, List·getD-append}
-use lib.Seq.{sets-eq}
+use lib.ListN.{length, getD, drop, replicate, List·getD-append}
+use lib.Seq.{length-sets}
 use Rattle.text.specs.declared.line.Line.{Line}
 use Rattle.text.specs.Line.{fieldLimit, rightShape, numbersOf, placed, wrongLine, rightLine, lineAnswer}
 use Rattle.checks.proofs.Cases.{by-cond}
+use Rattle.text.proofs.StoreLaws.{sets-front}
 use Rattle.text.proofs.ScanLaws.{scans, scanned}
 use Rattle.text.proofs.ShapeLaws.{scan-right, scan-numbers, number-below}
 
@@ -37,13 +38,25 @@ module _ (ws s : List ℕ) (n : 1 ≤ length ws) (r : Line) (e : r ≡ lineAnswe
       ap (λ (x : Line). x .right) e
       ∙ by-cond (λ (x : Line). x .right ≡ rightShape ws s) (rightShape ws s) (rightLine (numbersOf s)) wrongLine (λ t. sym t) (λ t. sym t)
 
+  pub line-room : length (r .numbers) ≡ fieldLimit
+  line-room =
+      ap (λ (x : Line). length (x .numbers)) e
+      ∙ by-cond (λ (x : Line). length (x .numbers) ≡ fieldLimit) (rightShape ws s) (rightLine (numbersOf s)) wrongLine (λ t. length-sets _ 0 (numbersOf s)) (λ t. refl)
+
+  -- the numbers stand at the front
+  pub line-front : r .right ≡ true → length ws ≤ fieldLimit
+      → (length (numbersOf s) ≡ length ws) × (r .numbers ≡ numbersOf s ++ drop (length (numbersOf s)) (replicate fieldLimit 0))
+  line-front t h =
+      let right : rightShape ws s ≡ true = sym line-shape ∙ t in
+      let m : length (numbersOf s) ≡ length ws = ap length (sym (scan-numbers ws s right)) ∙ scanned-length ws s in
+      let q : r ≡ rightLine (numbersOf s) = e ∙ rw right in
+      (m, ap (λ (x : Line). x .numbers) q ∙ sets-front (replicate fieldLimit 0) (numbersOf s) (omega arith))
+
   -- the number of field k, and that it fits its width
   pub line-number : r .right ≡ true → (k : ℕ) → length ws ≤ fieldLimit → k < length ws
       → (getD (r .numbers) k 0 ≡ getD (numbersOf s) k 0) × (getD (numbersOf s) k 0 < 10 ^ getD ws k 0)
   line-number t k h l =
-      let right : rightShape ws s ≡ true = sym line-shape ∙ t in
-      let m : length (numbersOf s) ≡ length ws = ap length (sym (scan-numbers ws s right)) ∙ scanned-length ws s in
-      let q : r ≡ rightLine (numbersOf s) = e ∙ rw right in
-      let p : getD (placed (numbersOf s)) k 0 ≡ getD (numbersOf s) k 0 =
-      rw (sets-eq (numbersOf s) (replicate fieldLimit 0) 0 (omega arith)) (List·getD-append (numbersOf s) _ 0 k (omega arith)) in
-      (ap (λ (x : Line). getD (x .numbers) k 0) q ∙ p, number-below ws s n right k)
+      let (m, front) = line-front t h in (
+        ap (λ (ns : List ℕ). getD ns k 0) front ∙ List·getD-append (numbersOf s) _ 0 k (omega (arith, m)),
+        number-below ws s n (sym line-shape ∙ t) k,
+      )

@@ -106,10 +106,8 @@ pub record FieldsRead (ws s : List ℕ) (at k : ℕ) (numbers : List ℕ) : Type
   pub shape : scans (drop k ws) (drop at s) ≡ scans ws s
   pub whole : sets numbers k (scanned (drop k ws) (drop at s)) ≡ placed (scanned ws s)
 
-module _ (ws s : List ℕ) (k at : ℕ) (h : k < length ws) where
-  abbrev here : ℕ
-  here = length (leading (getD ws k 0) (drop at s))
-
+-- the byte that closes field k
+module _ (ws : List ℕ) (k : ℕ) (h : k < length ws) where
   closer-at : fieldCloser (drop (k + 1) ws) ≡ cond (eqb (k + 1) (length ws)) cr comma
   unfolding fieldCloser
   closer-at =
@@ -119,8 +117,12 @@ module _ (ws s : List ℕ) (k at : ℕ) (h : k < length ws) where
       let n : k + 1 < length ws = omega (arith, eqb-false (k + 1) (length ws) e) in
       rw (drop-cons ws (k + 1) 0 n))
 
-  closer-suc : fieldCloser (drop (suc k) ws) ≡ cond (eqb (k + 1) (length ws)) cr comma
+  pub closer-suc : fieldCloser (drop (suc k) ws) ≡ cond (eqb (k + 1) (length ws)) cr comma
   closer-suc = ap (λ (n : ℕ). fieldCloser (drop n ws)) (sym (add-one k)) ∙ closer-at
+
+module _ (ws s : List ℕ) (k at : ℕ) (h : k < length ws) where
+  abbrev here : ℕ
+  here = length (leading (getD ws k 0) (drop at s))
 
   -- the digits counted, and the byte after them the one that closes the field
   pub record FieldCloses : Type 0 where
@@ -143,13 +145,13 @@ module _ (ws s : List ℕ) (k at : ℕ) (h : k < length ws) where
   -- another byte closes it
   pub turn-open : (getD s (at + here) 0 ≡ cond (eqb (k + 1) (length ws)) cr comma → ⊥) → scans (drop k ws) (drop at s) ≡ false
   unfolding scans
-  turn-open n = rw (drop-cons ws k 0 h, getD-drop at s here 0, closer-suc, ne-eqb _ _ n) (and-false (leb 1 here))
+  turn-open n = rw (drop-cons ws k 0 h, getD-drop at s here 0, closer-suc ws k h, ne-eqb _ _ n) (and-false (leb 1 here))
 
   -- one field further
   pub turn-shape : 1 ≤ here → getD s (at + here) 0 ≡ cond (eqb (k + 1) (length ws)) cr comma
       → scans (drop k ws) (drop at s) ≡ scans (drop (k + 1) ws) (drop (at + here + 1) s)
   unfolding scans
-  turn-shape a e = rw (drop-cons ws k 0 h, le-leb 1 here a, getD-drop at s here 0, closer-suc, eq-eqb _ _ e, further, add-one k)
+  turn-shape a e = rw (drop-cons ws k 0 h, le-leb 1 here a, getD-drop at s here 0, closer-suc ws k h, eq-eqb _ _ e, further, add-one k)
 
   pub turn-numbers : (ns : List ℕ)
       → sets ns k (scanned (drop k ws) (drop at s))

@@ -74,15 +74,15 @@ body-ends (a ∷ s) h =
 -- ---- a line of right shape is put together from fields that fit
 
 -- the fields one after the other, each with the byte that closes it
-abbrev closeOf : List (List ℕ) → ℕ
+abbrev pub closeOf : List (List ℕ) → ℕ
 closeOf [] = cr
 closeOf (g ∷ gs) = comma
 
-unfoldable closing : List (List ℕ) → List ℕ
+unfoldable pub closing : List (List ℕ) → List ℕ
 closing [] = lf ∷ []
 closing (f ∷ fs) = f ++ closeOf fs ∷ closing fs
 
-closing-written : (f : List ℕ) (fs : List (List ℕ)) → closing (f ∷ fs) ≡ written (f ∷ fs)
+pub closing-written : (f : List ℕ) (fs : List (List ℕ)) → closing (f ∷ fs) ≡ written (f ∷ fs)
 unfolding closing spelled
 closing-written f [] = refl
 closing-written f (g ∷ gs) =

@@ -1,12 +1,13 @@
 -- Stores in a row.
 -- Assumes nothing.
-use Prim.Native.Nat.{ℕ, suc, _+_}
+use Prim.Native.Nat.{ℕ, suc, _+_, _-_, _≤_}
 use native.Mathlib.Nat.{add-zero}
 use native.Mathlib.Omega.{arith}
-use mathlib.Core.List.{List, [], _∷_, _++_, append-nil}
-use mathlib.Core.Path.{_≡_, _∙_}
-use lib.ListN.{length, set}
-use lib.Seq.{sets, sets-eq, drop-length}
+use mathlib.Core.List.{List, [], _∷_, _++_, append-nil, append-assoc}
+use mathlib.Core.Path.{_≡_, sym, _∙_}
+use lib.ListN.{length, take, drop, set, length-drop}
+use lib.Seq.{sets, sets-eq, take-all, drop-length, drop-drop}
+use borrow.Rule.Slice.PartMut.{midOf, putMid, post-is}
 
 -- two stores after each other
 pub sets-append : (s : List ℕ) (at : ℕ) (xs ys : List ℕ) → sets s at (xs ++ ys) ≡ sets (sets s at xs) (at + length xs) ys
@@ -15,7 +16,21 @@ sets-append s at (x ∷ xs) ys =
     let place : suc at + length xs ≡ at + suc (length xs) = omega arith in
     sets-append (set s at x) (suc at) xs ys ∙ rw place
 
+-- a store at the front
+pub sets-front : (s xs : List ℕ) → length xs ≤ length s → sets s 0 xs ≡ xs ++ drop (length xs) s
+sets-front s xs h =
+    let end : 0 + length xs ≡ length xs = omega arith in
+    sets-eq xs s 0 (omega arith) ∙ rw end
+
+-- a store of the whole
 pub sets-all : (s xs : List ℕ) → length xs ≡ length s → sets s 0 xs ≡ xs
 sets-all s xs e =
-    let end : 0 + length xs ≡ length s = omega arith in
-    sets-eq xs s 0 (omega arith) ∙ rw (end, drop-length s) (append-nil xs)
+    sets-front s xs (omega arith) ∙ rw (e, drop-length s) (append-nil xs)
+
+-- a store at the front of the lent part `&mut s[at..]`, said of the whole
+pub sets-free : (s : List ℕ) (at : ℕ) (xs part : List ℕ) → at + length xs ≤ length s → part ≡ sets (midOf at (length s - at) s) 0 xs
+    → putMid at (length s - at) s part ≡ sets s at xs
+sets-free s at xs part h e =
+    let whole : take (length s - at) (drop at s) ≡ drop at s = take-all (length s - at) (drop at s) (simp length-drop (omega arith)) in
+    let front : sets (drop at s) 0 xs ≡ xs ++ drop (length xs) (drop at s) = sets-front (drop at s) xs (simp length-drop (omega arith)) in
+    rw (e, post-is at (length s) s (omega arith), drop-length s, append-nil, whole, front, drop-drop, ← append-assoc) (sym (sets-eq xs s at h))

@@ -33,7 +33,7 @@ fn wrong() -> Line
 }
 
 // The byte that closes field k of n, counted from 1: a comma, after the last one CR.
-fn field_closer(k: usize, n: usize) -> u8
+pub(crate) fn field_closer(k: usize, n: usize) -> u8
     ensures { λ r. ⌜ r ≡ cond (eqb k n) cr comma ⌝ }
 {
     if k == n { b'\r' } else { b',' }

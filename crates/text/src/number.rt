@@ -1,4 +1,5 @@
 // Numbers in text: reading 1 to 10 digits, and writing a decimal.
+ghost use mathlib.Core.Path.{_≡_};
 ghost use Prim.Native.Nat.{_+_, _≤_};
 ghost use lib.ListN.{length};
 ghost use Rattle.text.specs.Number.{digitLimit, decimal};
@@ -35,6 +36,19 @@ pub fn read_digits(s: &[u8], at: usize, width: usize) -> Digits
         n += 1;
     }
     Digits { count: n, value: v }
+}
+
+// How many digits a decimal has.
+pub fn decimal_length(v: u32) -> usize
+    ensures { λ r. ⌜ r ≡ length (decimal v) ⌝ }
+{
+    let mut rest = v;
+    let mut n = 1;
+    while 10 <= rest {
+        rest = rest / 10;
+        n += 1;
+    }
+    n
 }
 
 // Writes a decimal at a place, and answers the place after it.

@@ -27,6 +27,11 @@ pub record Readable (widths : List ℕ) : Type 0 where
   pub few : length widths ≤ fieldLimit
   pub each : narrow widths ≡ true
 
+-- numbers that the writer of lines takes
+pub record Writable (numbers : List ℕ) : Type 0 where
+  pub some : 1 ≤ length numbers
+  pub few : length numbers ≤ fieldLimit
+
 -- these bytes were written at a place and nothing else, and the place after them is answered
 pub record Wrote (before after : List ℕ) (at place : ℕ) (bytes : List ℕ) : Type 0 where
   pub place-after : place ≡ at + length bytes

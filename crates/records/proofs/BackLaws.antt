@@ -1,0 +1,78 @@
+-- What is written is read back: the text of a row, by the reader of the record.
+-- Assumes nothing.
+use mathlib.Core.Path.{_≡_, refl, sym, ap, _∙_}
+use mathlib.Core.Bool.{true}
+use mathlib.Core.List.{List, [], _∷_, _++_, append-assoc}
+use Prim.Native.Nat.{ℕ, suc, _+_, _-_, _/_, _%_, _^_, _≤_, _<_}
+use native.Mathlib.Omega.{arith}
+use lib.ListN.{length, take, drop, length-take}
+use lib.Seq.{sets, sets-eq, drop-at, take-append-seam}
+use borrow.Author.Tests.{eq-eqb}
+use Rattle.text.specs.Line.{rightShape, numbersOf, fitsIn}
+use Rattle.text.specs.Decimals.{decimals}
+use Rattle.text.proofs.ShapeLaws.{fits-none, fits-decimal}
+use Rattle.text.proofs.DecimalsLaws.{line-shaped, line-numbers, line-most}
+use Rattle.records.specs.declared.record_row.RecordRow.{RecordRow}
+use Rattle.records.specs.declared.reader.RecordRead.the-variants.{Accepted}
+use Rattle.records.specs.RecordRow.{rowFits, timestamp, recordNumbers, recordText, longestRecord}
+use Rattle.records.specs.Writer.{writeRefusal, freeFrom, writtenAt, WriteAnswer, writeAnswer}
+use Rattle.records.specs.Reader.{recordWidths, recordRefusal, recordAnswer}
+use Rattle.records.proofs.StatusLaws.{status-bits, status-back}
+use Rattle.records.proofs.WriterLaws.{fits, accepted-fits, accepted-place, write-accepted, write-number}
+
+module _ (x : RecordRow) (fit : rowFits x ≡ true) where
+  bit : (value : ℕ) (ws : List ℕ) (fs : List (List ℕ)) → fitsIn ws fs ≡ true → fitsIn (1 ∷ ws) (decimals (x .outputs / value % 2 ∷ []) ++ fs) ≡ true
+  bit value ws fs h = fits-decimal 0 (x .outputs / value % 2) ws fs (omega arith) (omega arith) h
+
+  -- the fields fit the reader's widths, and a timestamp fewer
+  fields-fit : (w : ℕ) → w ≤ 9 → timestamp (x .number) < 10 ^ suc w → fitsIn (6 ∷ suc w ∷ 7 ∷ 7 ∷ 7 ∷ 1 ∷ 1 ∷ 1 ∷ 1 ∷ 1 ∷ 1 ∷ 1 ∷ 1 ∷ []) (decimals (recordNumbers x)) ≡ true
+  fields-fit w h k =
+      let f = fits x fit in
+      fits-decimal 5 (x .number) _ _ (omega arith) (omega (arith, f .most))
+      (fits-decimal w (timestamp (x .number)) _ _ h k
+      (fits-decimal 6 (x .l1) _ _ (omega arith) (omega (arith, f .first))
+      (fits-decimal 6 (x .l2) _ _ (omega arith) (omega (arith, f .second))
+      (fits-decimal 6 (x .l3) _ _ (omega arith) (omega (arith, f .third))
+      (bit 1 _ _ (bit 2 _ _ (bit 4 _ _ (bit 8 _ _ (bit 16 _ _ (bit 32 _ _ (bit 64 _ _ (bit 128 _ _ fits-none))))))))))))
+
+  pub record-most : length (recordText x) ≤ longestRecord
+  unfolding recordText
+  record-most = omega (arith, line-most _ (recordNumbers x) (omega arith) (fields-fit 8 (omega arith) (omega (arith, fits x fit .most))))
+
+  all-fit : fitsIn recordWidths (decimals (recordNumbers x)) ≡ true
+  all-fit = fields-fit 9 (omega arith) (omega (arith, fits x fit .most))
+
+  pub record-right : rightShape recordWidths (recordText x) ≡ true
+  unfolding recordText
+  record-right = line-shaped recordWidths (recordNumbers x) (omega arith) all-fit
+
+  -- the numbers of its fields, the eight bits among them
+  pub numbers-back : numbersOf (recordText x) ≡ recordNumbers x
+  unfolding recordText
+  numbers-back = line-numbers recordWidths (recordNumbers x) (omega arith) all-fit
+
+  pub text-back : x .outputs < 256 → recordAnswer (recordText x) (x .number - 1) ≡ Accepted x
+  unfolding recordAnswer recordRefusal
+  text-back byte =
+      let next : x .number ≡ x .number - 1 + 1 = omega (arith, fits x fit .some) in
+      rw (record-right, numbers-back, eq-eqb (x .number) (x .number - 1 + 1) next, status-bits (x .outputs), status-back (x .outputs) byte)
+
+-- ---- the bytes written
+
+-- those from the place of a write to the place after it
+abbrev pub bytesWritten : ℕ → WriteAnswer → List ℕ
+bytesWritten at w = take (w .answer .place - at) (drop at (w .buffer))
+
+stored : (out : List ℕ) (at : ℕ) (xs : List ℕ) → at + length xs ≤ length out → bytesWritten at (writtenAt out at xs) ≡ xs
+stored out at xs h =
+    let front : length (take at out) ≡ at = rw length-take (omega arith) in
+    let long : at + length xs - at ≡ length xs = omega arith in
+    rw (long, sets-eq xs out at h, append-assoc (take at out) xs (drop (at + length xs) out), drop-at (take at out) (xs ++ drop (at + length xs) out) at front) (take-append-seam xs (drop (at + length xs) out))
+
+-- READING THE FIELDS BACK: the reader, on exactly the bytes of an accepted write and after the number before, gives the row
+pub reading-back : (out : List ℕ) (at : ℕ) (x : RecordRow) → x .outputs < 256 → writeAnswer out at x .answer .refusal ≡ 0
+    → recordAnswer (bytesWritten at (writeAnswer out at x)) (x .number - 1) ≡ Accepted x
+reading-back out at x byte e =
+    let none : writeRefusal x (freeFrom out at) ≡ 0 = sym (write-number out at x) ∙ e in
+    let room = accepted-place x (freeFrom out at) (length out) at refl none in
+    rw (write-accepted out at x none, stored out at (recordText x) room) (text-back x (accepted-fits x (freeFrom out at) none) byte)

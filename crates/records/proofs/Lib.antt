@@ -1,0 +1,4 @@
+pub mod StatusLaws
+pub mod WriterLaws
+pub mod ReaderLaws
+pub mod BackLaws

@@ -1,0 +1,5 @@
+pub mod Refusals
+pub mod Status
+pub mod RecordRow
+pub mod Writer
+pub mod Reader

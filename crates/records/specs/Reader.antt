@@ -1,0 +1,49 @@
+-- The reader of the record's rows (02, E1): "01's reader keeps its one block field; a second takes the eight".
+use mathlib.Core.Bool.{cond}
+use mathlib.Core.List.{List, [], _∷_}
+use Prim.Native.Nat.{ℕ, _+_}
+use lib.Dec.{eqb}
+use lib.ListN.{getD, take, drop}
+use Rattle.rows.specs.Refusals.{wrongShape, wrongNumber}
+use Rattle.text.specs.Line.{rightShape, numbersOf}
+use Rattle.records.specs.declared.record_row.RecordRow.{RecordRow}
+use Rattle.records.specs.declared.reader.RecordRead.{RecordRead}
+use Rattle.records.specs.declared.reader.RecordRead.the-variants.{Accepted, Refused}
+use Rattle.records.specs.Refusals.{wrongStatus}
+use Rattle.records.specs.Status.{allBits, byteOf}
+
+-- 01's widths of a data row, with eight status fields of one digit in place of the block
+abbrev pub recordWidths : List ℕ
+recordWidths = 6 ∷ 10 ∷ 7 ∷ 7 ∷ 7 ∷ 1 ∷ 1 ∷ 1 ∷ 1 ∷ 1 ∷ 1 ∷ 1 ∷ 1 ∷ []
+
+abbrev pub statusIn : List ℕ → List ℕ
+statusIn ns = take 8 (drop 5 ns)
+
+-- "The timestamp is read and ignored."
+abbrev pub recordIn : List ℕ → RecordRow
+recordIn ns = record {
+  number = getD ns 0 0;
+  l1 = getD ns 2 0;
+  l2 = getD ns 3 0;
+  l3 = getD ns 4 0;
+  outputs = byteOf (statusIn ns);
+}
+
+-- 12 whatever the rest; then 13 where the number "isn't one more than the last"; then 14 where a status field isn't 0 or 1
+unfoldable pub recordRefusal : List ℕ → ℕ → ℕ
+recordRefusal s last =
+    cond (rightShape recordWidths s)
+    (cond (eqb (getD (numbersOf s) 0 0) (last + 1))
+    (cond (allBits (statusIn (numbersOf s))) 0 wrongStatus)
+    wrongNumber)
+    wrongShape
+
+-- what the reader answers
+unfoldable pub recordAnswer : List ℕ → ℕ → RecordRead
+recordAnswer s last =
+    cond (eqb (recordRefusal s last) 0) (Accepted (recordIn (numbersOf s))) (Refused (recordRefusal s last))
+
+-- the paper's number for each case of the answer
+abbrev pub recordNumber : RecordRead → ℕ
+recordNumber (Accepted x) = 0
+recordNumber (Refused n) = n
