@@ -1,7 +1,9 @@
 /*
- * The replay program of document 01 in plain C, over plain.c's tick. It shares
- * no code with the proved program, so that the two can be compared.
- * Standard input to standard output. Words in quotes are the document's.
+ * The programs replay and record in plain C, over plain.c's tick. They share no
+ * code with the proved ones, so that they can be compared.
+ *   replay_plain replay   writes the changes and the end line
+ *   replay_plain record   writes a row for each row done; says a refusal on standard error
+ * Standard input to standard output. Words in quotes are the documents'.
  */
 #include "plain.h"
 
@@ -114,10 +116,23 @@ static uint32_t read_row(uint32_t last_number, struct row *row)
     return ACCEPTED;
 }
 
-/* ---- The replay ---- */
+/* ---- The replay and the record ---- */
 
-/* Replays the rows to the end of the input or to the first refusal, which it returns. */
-static uint32_t replay_rows(const struct plain_settings *set, uint32_t *rows_done)
+/*
+ * "Row number, timestamp 1000 x (number - 1), the three currents, then eight status
+ * fields, one for each bit of the output byte from bit 1 upward"
+ */
+static void write_record_row(unsigned number, const uint32_t g[3], uint8_t out)
+{
+    printf("%u,%u,%u,%u,%u", number, 1000 * (number - 1), (unsigned)g[0], (unsigned)g[1],
+           (unsigned)g[2]);
+    for (int bit = 0; bit < 8; bit++)
+        printf(",%d", out >> bit & 1);
+    printf("\r\n");
+}
+
+/* Goes through the rows to the end of the input or to the first refusal, which it returns. */
+static uint32_t replay_rows(const struct plain_settings *set, bool record, uint32_t *rows_done)
 {
     struct plain_phase phases[3] = {{0, 0, 0}, {0, 0, 0}, {0, 0, 0}};
     uint8_t before = 0;
@@ -128,23 +143,40 @@ static uint32_t replay_rows(const struct plain_settings *set, uint32_t *rows_don
             return refusal;
         ++*rows_done;
         uint8_t out = plain_tick(set, phases, row.g, row.block);
-        if (out != before)
+        if (record)
+            write_record_row(*rows_done, row.g, out);
+        else if (out != before)
             printf("%u,%u\n", (unsigned)*rows_done, (unsigned)out);
         before = out;
     }
     return ACCEPTED;
 }
 
-int main(void)
+/* What the record says of a refusal is the proved one's line up to the words for a person. */
+static void write_end(bool record, unsigned rows_done, unsigned refusal)
 {
+    if (!record)
+        printf("end,%u,%u\n", rows_done, refusal);
+    else if (refusal != ACCEPTED)
+        fprintf(stderr, "end,%u,%u: \n", rows_done, refusal);
+}
+
+int main(int count, char **words)
+{
+    const char *form = count == 2 ? words[1] : "";
+    bool record = strcmp(form, "record") == 0;
+    if (!record && strcmp(form, "replay") != 0) {
+        fputs("usage: replay_plain replay|record\n", stderr);
+        return 2;
+    }
     struct plain_settings set;
     uint32_t rows_done = 0;
     uint32_t refusal = read_settings(&set);
     if (refusal == ACCEPTED) {
         if (plain_needs_powers(&set))
             plain_fill_powers();
-        refusal = replay_rows(&set, &rows_done);
+        refusal = replay_rows(&set, record, &rows_done);
     }
-    printf("end,%u,%u\n", (unsigned)rows_done, (unsigned)refusal);
+    write_end(record, rows_done, refusal);
     return fflush(stdout) == 0 ? 0 : 1;
 }

@@ -3,29 +3,50 @@
 use mathlib.Core.Path.{_≡_, refl, ap, _∙_}
 use mathlib.Core.Bool.{Bool, true, false, _&&_}
 use mathlib.Core.List.{List, [], _∷_, _++_}
-use Prim.Native.Nat.{ℕ, _≤_, _<_}
+use Prim.Native.Nat.{ℕ, _*_, _/_, _≤_, _<_}
 use native.Mathlib.Omega.{arith}
 use lib.Dec.{leb, ltb}
 use lib.ListN.{length}
 use borrow.Author.Tests.{le-leb, lt-leb, lt-ltb, leb-true, ltb-true}
+use Rattle.files.specs.declared.output.Form.{Form}
+use Rattle.files.specs.declared.output.Form.the-variants.{Changes, Record}
 use Rattle.files.specs.declared.replay.Replay.{Replay}
 use Rattle.files.specs.declared.replay.Fed.{Fed}
 use Rattle.text.specs.Lines.{joined}
-use Rattle.files.specs.Output.{endRoom}
-use Rattle.files.specs.Replay.{replayOf, longestLine, lineLimit, freshReplay, portionRoom, fed, writes, takes, fedBy, fedIf, feedAnswer, writesIf, feedWrites, endsWith, finishIf, finishWrites}
+use Rattle.files.specs.Output.{spread, endRoom}
+use Rattle.files.specs.Replay.{Told, writtenFirst, toldOf, replayOf, recordOf, longestLine, lineLimit, freshReplay, portionRoom, fed, writes, takes, fedBy, fedIf, feedAnswer, writesIf, feedWrites, endsWith, finishIf, finishWrites}
 use Rattle.files.specs.device.Calls.{Sound}
-use Rattle.checks.proofs.Tests.{both-true}
-use Rattle.files.proofs.PortionLaws.{fed-sound, fresh-sound, feedAll, replay-of-portions}
+use Rattle.checks.proofs.Tests.{both-true, leb-iff}
+use Rattle.files.proofs.PortionLaws.{fed-sound, fresh-sound, feedAll, told-of-portions}
 
 -- ---- feeding
 
-module _ (r : Replay) (s : List ℕ) (room : ℕ) where
-  module _ (e : takes (r .cutter .count) (length s) room ≡ true) where
-    pub taken-short : r .cutter .count < lineLimit
-    taken-short = ltb-true (r .cutter .count) lineLimit (both-true (ltb (r .cutter .count) lineLimit) (leb (portionRoom (r .cutter .count) (length s)) room) e .0)
+-- a state that holds less than the longest line needs no more room
+held-less : (form : Form) (held read room : ℕ) → held < lineLimit → portionRoom form longestLine read ≤ room → portionRoom form held read ≤ room
+held-less Changes held read room h k = omega arith
+held-less Record held read room h k = omega arith
 
-    pub taken-room : portionRoom (r .cutter .count) (length s) ≤ room
-    taken-room = leb-true (portionRoom (r .cutter .count) (length s)) room (both-true (ltb (r .cutter .count) lineLimit) (leb (portionRoom (r .cutter .count) (length s)) room) e .1)
+-- room for the record suffices for either form
+pub room-for-any : (form : Form) (read most : ℕ) → read ≤ most → portionRoom form longestLine read ≤ portionRoom Record longestLine most
+room-for-any Changes read most h = omega arith
+room-for-any Record read most h = omega arith
+
+-- the code divides the room in place of multiplying the bytes
+pub input-room : (form : Form) (bytes room : ℕ) → leb bytes (room / spread form) ≡ leb (spread form * bytes) room
+input-room Changes bytes room = leb-iff bytes (room / 1) (1 * bytes) room (λ h. omega arith) (λ h. omega arith)
+input-room Record bytes room = leb-iff bytes (room / 5) (5 * bytes) room (λ h. omega arith) (λ h. omega arith)
+
+fed-form : (r : Replay) (s : List ℕ) → fed r s .form ≡ r .form
+unfolding fed
+fed-form r s = refl
+
+module _ (r : Replay) (s : List ℕ) (room : ℕ) where
+  module _ (e : takes (r .form) (r .cutter .count) (length s) room ≡ true) where
+    pub taken-short : r .cutter .count < lineLimit
+    taken-short = ltb-true (r .cutter .count) lineLimit (both-true (ltb (r .cutter .count) lineLimit) (leb (portionRoom (r .form) (r .cutter .count) (length s)) room) e .0)
+
+    pub taken-room : portionRoom (r .form) (r .cutter .count) (length s) ≤ room
+    taken-room = leb-true (portionRoom (r .form) (r .cutter .count) (length s)) room (both-true (ltb (r .cutter .count) lineLimit) (leb (portionRoom (r .form) (r .cutter .count) (length s)) room) e .1)
 
     pub taken-answer : feedAnswer r s room ≡ fedBy r s
     unfolding fedIf
@@ -35,7 +56,7 @@ module _ (r : Replay) (s : List ℕ) (room : ℕ) where
     unfolding writesIf
     taken-writes = ap (λ (t : Bool). writesIf t r s) e
 
-  module _ (e : takes (r .cutter .count) (length s) room ≡ false) where
+  module _ (e : takes (r .form) (r .cutter .count) (length s) room ≡ false) where
     pub untaken-answer : feedAnswer r s room ≡ record { taken = false; state = r; written = 0 }
     unfolding fedIf
     untaken-answer = ap (λ (t : Bool). fedIf t r s) e
@@ -45,14 +66,11 @@ module _ (r : Replay) (s : List ℕ) (room : ℕ) where
     untaken-writes = ap (λ (t : Bool). writesIf t r s) e
 
   -- a replay that began fresh takes every portion, where the output is as large as the portion and what is held
-  pub sound-takes : Sound r → portionRoom (r .cutter .count) (length s) ≤ room → takes (r .cutter .count) (length s) room ≡ true
-  sound-takes h k = rw (lt-ltb (r .cutter .count) lineLimit (omega (arith, h .short)), le-leb (portionRoom (r .cutter .count) (length s)) room k)
+  pub sound-takes : Sound r → portionRoom (r .form) (r .cutter .count) (length s) ≤ room → takes (r .form) (r .cutter .count) (length s) room ≡ true
+  sound-takes h k = rw (lt-ltb (r .cutter .count) lineLimit (omega (arith, h .short)), le-leb (portionRoom (r .form) (r .cutter .count) (length s)) room k)
 
-  -- and stays sound
-  pub sound-answer : (x : Fed) → Sound r → portionRoom (r .cutter .count) (length s) ≤ room → x ≡ feedAnswer r s room → (x .taken ≡ true) × (Sound (x .state))
-  sound-answer x h k e =
-      let q : x ≡ fedBy r s = e ∙ taken-answer (sound-takes h k) in
-      rw q (refl, fed-sound r s h)
+  pub sound-answer : (x : Fed) → Sound r → portionRoom (r .form) longestLine (length s) ≤ room → x ≡ feedAnswer r s room → x ≡ fedBy r s
+  sound-answer x h k e = e ∙ taken-answer (sound-takes h (held-less (r .form) (r .cutter .count) (length s) room (h .short) k))
 
 -- ---- ending
 
@@ -68,24 +86,33 @@ module _ (r : Replay) (room : ℕ) where
 -- ---- all calls together
 
 -- what the calls hand out, one after the other: a portion each, with an output of `room` bytes, and then the end
-unfoldable pub handedOut : Replay → List (List ℕ) → ℕ → List ℕ
-handedOut r [] room = finishWrites r room
-handedOut r (p ∷ ps) room = feedWrites r p room ++ handedOut (feedAnswer r p room .state) ps room
+unfoldable pub handedOut : Replay → List (List ℕ) → ℕ → Told
+handedOut r [] room = record { rows = []; end = finishWrites r room }
+handedOut r (p ∷ ps) room = writtenFirst (feedWrites r p room) (handedOut (feedAnswer r p room .state) ps room)
 
 -- the output has room for each portion and what a state may hold
-unfoldable pub roomFor : List (List ℕ) → ℕ → Bool
-roomFor [] room = true
-roomFor (p ∷ ps) room = leb (portionRoom longestLine (length p)) room && roomFor ps room
+unfoldable pub roomFor : Form → List (List ℕ) → ℕ → Bool
+roomFor form [] room = true
+roomFor form (p ∷ ps) room = leb (portionRoom form longestLine (length p)) room && roomFor form ps room
 
-handed-fed : (r : Replay) (ps : List (List ℕ)) (room : ℕ) → Sound r → endRoom ≤ room → roomFor ps room ≡ true → handedOut r ps room ≡ feedAll r ps
+handed-fed : (r : Replay) (ps : List (List ℕ)) (room : ℕ) → Sound r → endRoom ≤ room → roomFor (r .form) ps room ≡ true → handedOut r ps room ≡ feedAll r ps
 unfolding handedOut roomFor feedAll finishIf
 handed-fed r [] room h k e = rw (le-leb endRoom room k)
 handed-fed r (p ∷ ps) room h k e =
-    let m = leb-true (portionRoom longestLine (length p)) room (both-true (leb (portionRoom longestLine (length p)) room) (roomFor ps room) e .0) in
-    let t : takes (r .cutter .count) (length p) room ≡ true = sound-takes r p room h (omega (arith, h .short, m)) in
+    let here = leb (portionRoom (r .form) longestLine (length p)) room in
+    let m = leb-true (portionRoom (r .form) longestLine (length p)) room (both-true here (roomFor (r .form) ps room) e .0) in
+    let t : takes (r .form) (r .cutter .count) (length p) room ≡ true = sound-takes r p room h (held-less (r .form) (r .cutter .count) (length p) room (h .short) m) in
     let q : feedAnswer r p room .state ≡ fed r p = ap (λ (x : Fed). x .state) (taken-answer r p room t) in
-    rw (taken-writes r p room t, q) (ap (λ (w : List ℕ). writes r p ++ w) (handed-fed (fed r p) ps room (fed-sound r p h) k (both-true (leb (portionRoom longestLine (length p)) room) (roomFor ps room) e .1)))
+    rw (taken-writes r p room t, q) (ap (writtenFirst (writes r p)) (handed-fed (fed r p) ps room (fed-sound r p h) k (rw (fed-form r p) (both-true here (roomFor (r .form) ps room) e .1))))
+
+pub told-of-calls : (form : Form) (ps : List (List ℕ)) (room : ℕ) → endRoom ≤ room → roomFor form ps room ≡ true → handedOut (freshReplay form) ps room ≡ toldOf form (joined ps)
+told-of-calls form ps room k e = handed-fed (freshReplay form) ps room (fresh-sound form) k e ∙ told-of-portions form ps
 
 -- WHAT A TESTER RELIES ON: whatever the portions, what the calls hand out is the replay of the whole input
-pub replay-of-calls : (ps : List (List ℕ)) (room : ℕ) → endRoom ≤ room → roomFor ps room ≡ true → handedOut freshReplay ps room ≡ replayOf (joined ps)
-replay-of-calls ps room k e = handed-fed freshReplay ps room fresh-sound k e ∙ replay-of-portions ps
+pub replay-of-calls : (ps : List (List ℕ)) (room : ℕ) → endRoom ≤ room → roomFor Changes ps room ≡ true
+    → let x : Told = handedOut (freshReplay Changes) ps room in x .rows ++ x .end ≡ replayOf (joined ps)
+replay-of-calls ps room k e = ap (λ (x : Told). x .rows ++ x .end) (told-of-calls Changes ps room k e)
+
+-- WHAT A VIEWER RELIES ON: whatever the portions, what they write is the record of the whole input
+pub record-of-calls : (ps : List (List ℕ)) (room : ℕ) → endRoom ≤ room → roomFor Record ps room ≡ true → handedOut (freshReplay Record) ps room .rows ≡ recordOf (joined ps)
+record-of-calls ps room k e = ap (λ (x : Told). x .rows) (told-of-calls Record ps room k e)

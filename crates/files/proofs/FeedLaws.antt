@@ -3,7 +3,7 @@
 use mathlib.Core.Path.{_≡_, refl, sym, ap, _∙_}
 use mathlib.Core.Bool.{true}
 use mathlib.Core.List.{List, [], _++_}
-use Prim.Native.Nat.{ℕ, _+_, _≤_, _<_}
+use Prim.Native.Nat.{ℕ, _+_, _*_, _≤_, _<_}
 use native.Mathlib.Nat.{add-zero}
 use native.Mathlib.Omega.{arith}
 use lib.ListN.{length, drop, length-append, drop-of-length-le}
@@ -15,9 +15,12 @@ use Rattle.text.specs.declared.cutter.Cutter.{Cutter}
 use Rattle.text.specs.declared.cutter.PieceCut.{PieceCut}
 use Rattle.text.specs.Lines.{Cutting, cuttingBy, cutSoFar, cutting}
 use Rattle.text.specs.Cutter.{heldRoom, emptyCutter, heldLine, heldAfter, pieceAnswer}
+use Rattle.files.specs.declared.output.Form.{Form}
+use Rattle.files.specs.declared.output.Form.the-variants.{Changes, Record}
 use Rattle.files.specs.declared.progress.Noted.{Noted}
 use Rattle.files.specs.declared.replay.Replay.{Replay}
 use Rattle.files.specs.declared.replay.Fed.{Fed}
+use Rattle.files.specs.Output.{spread}
 use Rattle.files.specs.Progress.{afterLine, wroteLine, refuse}
 use Rattle.files.specs.Replay.{lineLimit, afterLines, wroteLines, refuseIf, cutPortion, fedCut, fed, writes}
 use Rattle.files.specs.device.Calls.{LineNoted, PortionFed}
@@ -34,7 +37,7 @@ module _ (s : Replay) (p : List ℕ) (i : ℕ) (short : s .cutter .count < lineL
 
   -- with the line taken
   abbrev next : Replay
-  next = record { progress = afterLine (s .progress) line; cutter = emptyCutter }
+  next = record { form = s .form; progress = afterLine (s .progress) line; cutter = emptyCutter }
 
   abbrev cutAs : Cut → Cutting
   cutAs t = cuttingBy t line (drop (k .next) p) (cutSoFar line) (cutPortion next (drop (k .next) p))
@@ -46,18 +49,18 @@ module _ (s : Replay) (p : List ℕ) (i : ℕ) (short : s .cutter .count < lineL
   cut-here t e = cutting-goes-on CrLf lineLimit (s .cutter) p i short (omega arith) room k answer ∙ ap cutAs e
 
   abbrev still : Cutter → Replay
-  still c = record { progress = s .progress; cutter = c }
+  still c = record { form = s .form; progress = s .progress; cutter = c }
 
   fed-held : k .cut ≡ Held → fed s (drop i p) ≡ still (k .cutter)
   unfolding fed afterLines refuseIf heldAfter
   fed-held e = ap (fedCut s (drop i p)) (cut-here Held e) ∙ ap still (sym (piece .all e))
 
-  fed-long : k .cut ≡ TooLong → fed s (drop i p) ≡ record { progress = refuse (s .progress); cutter = emptyCutter }
+  fed-long : k .cut ≡ TooLong → fed s (drop i p) ≡ record { form = s .form; progress = refuse (s .progress); cutter = emptyCutter }
   unfolding fed afterLines refuseIf heldAfter
   fed-long e = ap (fedCut s (drop i p)) (cut-here TooLong e)
 
   abbrev onward : Cutter → Replay
-  onward c = record { progress = fedCut next (drop (k .next) p) (cutPortion next (drop (k .next) p)) .progress; cutter = c }
+  onward c = record { form = s .form; progress = fedCut next (drop (k .next) p) (cutPortion next (drop (k .next) p)) .progress; cutter = c }
 
   fed-closed : k .cut ≡ Closed → fed s (drop i p) ≡ fed next (drop (k .next) p)
   unfolding fed afterLines
@@ -66,7 +69,7 @@ module _ (s : Replay) (p : List ℕ) (i : ℕ) (short : s .cutter .count < lineL
       ∙ ap onward (line-taken CrLf lineLimit (s .cutter) (drop i p) line (drop (k .next) p))
 
   abbrev wroteCut : Cutting → List ℕ
-  wroteCut x = wroteLines (s .progress) (x .lines)
+  wroteCut x = wroteLines (s .form) (s .progress) (x .lines)
 
   wrote-held : k .cut ≡ Held → writes s (drop i p) ≡ []
   unfolding writes wroteLines
@@ -76,18 +79,29 @@ module _ (s : Replay) (p : List ℕ) (i : ℕ) (short : s .cutter .count < lineL
   unfolding writes wroteLines
   wrote-long e = ap wroteCut (cut-here TooLong e)
 
-  wrote-closed : k .cut ≡ Closed → writes s (drop i p) ≡ wroteLine (s .progress) line ++ writes next (drop (k .next) p)
+  wrote-closed : k .cut ≡ Closed → writes s (drop i p) ≡ wroteLine (s .form) (s .progress) line ++ writes next (drop (k .next) p)
   unfolding writes wroteLines
   wrote-closed e = ap wroteCut (cut-here Closed e)
 
 -- ---- what holds of a portion at its place i: the state s and the rest of the portion give what the whole gives
+
+-- the room that is left: a byte held or still to be read may write as many as it spreads to
+room-left : (form : Form) (at held i begun total : ℕ) → at + spread form * held ≤ spread form * (begun + i) → i ≤ total → at ≤ spread form * (begun + total)
+room-left Changes at held i begun total h k = omega arith
+room-left Record at held i begun total h k = omega arith
+
+line-fits : (form : Form) (at held count i next begun total : ℕ) → at + spread form * held ≤ spread form * (begun + i) → count + i ≡ held + next → next ≤ total
+    → at + spread form * count ≤ spread form * (begun + total)
+line-fits Changes at held count i next begun total h e k = omega arith
+line-fits Record at held count i next begun total h e k = omega arith
 
 pub record FeedTurn (r : Replay) (p before : List ℕ) (i : ℕ) (s : Replay) (at : ℕ) (out : List ℕ) : Type 0 where
   pub within : i ≤ length p
   pub long : length out ≡ length before
   pub room : length (s .cutter .held) ≡ heldRoom
   pub short : s .cutter .count < lineLimit
-  pub little : at + s .cutter .count ≤ r .cutter .count + i
+  pub same : s .form ≡ r .form
+  pub little : at + spread (r .form) * s .cutter .count ≤ spread (r .form) * (r .cutter .count + i)
   pub state : fed r p ≡ fed s (drop i p)
   pub place : length (writes r p) ≡ at + length (writes s (drop i p))
   pub bytes : sets before 0 (writes r p) ≡ sets out at (writes s (drop i p))
@@ -98,7 +112,8 @@ turn-first r p out room short = record {
   long = refl;
   room = room;
   short = short;
-  little = omega arith;
+  same = refl;
+  little = rw (add-zero (r .cutter .count)) (omega arith);
   state = refl;
   place = omega arith;
   bytes = refl;
@@ -113,7 +128,7 @@ module _ (r : Replay) (p before : List ℕ) (i : ℕ) (s : Replay) (at : ℕ) (o
       record {
         answer = e ∙ rw (state, place);
         output = sym (turn .bytes ∙ ap (sets out at) none);
-        within = rw e (omega (arith, turn .little, turn .within));
+        within = rw e (room-left (r .form) at (s .cutter .count) i (r .cutter .count) (length p) (turn .little) (turn .within));
       }
 
   pub turn-last : length p ≤ i → (x : Fed) → x ≡ record { taken = true; state = s; written = at } → PortionFed r p before out x
@@ -127,33 +142,36 @@ module _ (r : Replay) (p before : List ℕ) (i : ℕ) (s : Replay) (at : ℕ) (o
     taken = piece s p i (turn .short) (turn .room) k answer
 
     -- the line has room in the output
-    pub line-room : at + k .cutter .count ≤ r .cutter .count + length p
-    line-room = omega (arith, turn .little, taken .counted, taken .within more)
+    pub line-room : at + spread (r .form) * k .cutter .count ≤ spread (r .form) * (r .cutter .count + length p)
+    line-room =
+        line-fits (r .form) at (s .cutter .count) (k .cutter .count) i (k .next) (r .cutter .count) (length p) (turn .little) (taken .counted) (taken .within more)
 
-    pub turn-held : k .cut ≡ Held → (x : Fed) → x ≡ record { taken = true; state = record { progress = s .progress; cutter = k .cutter }; written = at } → PortionFed r p before out x
+    pub turn-held : k .cut ≡ Held → (x : Fed) → x ≡ record { taken = true; state = record { form = s .form; progress = s .progress; cutter = k .cutter }; written = at } → PortionFed r p before out x
     turn-held told x e =
-        over (record { progress = s .progress; cutter = k .cutter }) x (fed-held s p i (turn .short) (turn .room) k answer told) (wrote-held s p i (turn .short) (turn .room) k answer told) e
+        over (record { form = s .form; progress = s .progress; cutter = k .cutter }) x (fed-held s p i (turn .short) (turn .room) k answer told) (wrote-held s p i (turn .short) (turn .room) k answer told) e
 
-    pub turn-long : k .cut ≡ TooLong → (x : Fed) → x ≡ record { taken = true; state = record { progress = refuse (s .progress); cutter = emptyCutter }; written = at } → PortionFed r p before out x
+    pub turn-long : k .cut ≡ TooLong → (x : Fed) → x ≡ record { taken = true; state = record { form = s .form; progress = refuse (s .progress); cutter = emptyCutter }; written = at } → PortionFed r p before out x
     turn-long told x e =
-        over (record { progress = refuse (s .progress); cutter = emptyCutter }) x (fed-long s p i (turn .short) (turn .room) k answer told) (wrote-long s p i (turn .short) (turn .room) k answer told) e
+        over (record { form = s .form; progress = refuse (s .progress); cutter = emptyCutter }) x (fed-long s p i (turn .short) (turn .room) k answer told) (wrote-long s p i (turn .short) (turn .room) k answer told) e
 
-    pub turn-closed : k .cut ≡ Closed → (t : Noted) (out' : List ℕ) → LineNoted (k .cutter .count) out out' at (afterLine (s .progress) (heldLine (k .cutter))) (wroteLine (s .progress) (heldLine (k .cutter))) t
-        → FeedTurn r p before (k .next) (record { progress = t .progress; cutter = emptyCutter }) (t .written) out'
+    pub turn-closed : k .cut ≡ Closed → (t : Noted) (out' : List ℕ)
+        → LineNoted (spread (s .form) * k .cutter .count) out out' at (afterLine (s .progress) (heldLine (k .cutter))) (wroteLine (s .form) (s .progress) (heldLine (k .cutter))) t
+        → FeedTurn r p before (k .next) (record { form = s .form; progress = t .progress; cutter = emptyCutter }) (t .written) out'
     turn-closed told t out' n =
         let q = next s p i (turn .short) (turn .room) k answer in
-        let w = wroteLine (s .progress) (heldLine (k .cutter)) in
+        let w = wroteLine (s .form) (s .progress) (heldLine (k .cutter)) in
         let ws = writes q (drop (k .next) p) in
-        let same : record { progress = t .progress; cutter = emptyCutter } ≡ q = rw (n .noted) in
+        let begun : record { form = s .form; progress = t .progress; cutter = emptyCutter } ≡ q = rw (n .noted) in
         let on : writes s (drop i p) ≡ w ++ ws = wrote-closed s p i (turn .short) (turn .room) k answer told in
         let size : length (writes s (drop i p)) ≡ length w + length ws = ap length on ∙ length-append w ws in
         let place : t .written ≡ at + length w = ap (λ (x : Noted). x .written) (n .noted) in
-        rw same (record {
+        rw begun (record {
           within = taken .within more;
           long = rw (n .output, length-sets) (turn .long);
           room = refl;
           short = omega arith;
-          little = omega (arith, n .short, turn .little, taken .counted);
+          same = turn .same;
+          little = omega (arith, rw (turn .same) at (n .short), line-fits (r .form) at (s .cutter .count) (k .cutter .count) i (k .next) (r .cutter .count) (k .next) (turn .little) (taken .counted) (omega arith));
           state = turn .state ∙ fed-closed s p i (turn .short) (turn .room) k answer told;
           place = omega (arith, turn .place, size, place);
           bytes = turn .bytes ∙ ap (sets out at) on ∙ sets-append out at w ws ∙ rw (n .output, place);

@@ -1,16 +1,26 @@
 -- How long the lines of output are, and the stores that write them.
 -- Assumes nothing.
-use mathlib.Core.Path.{_≡_, sym}
+use mathlib.Core.Path.{_≡_, sym, ap, _∙_}
 use mathlib.Core.List.{List, [], _∷_, _++_}
-use Prim.Native.Nat.{ℕ, suc, _+_, _≤_, _<_}
+use Prim.Native.Nat.{ℕ, suc, _+_, _*_, _≤_, _<_}
 use native.Mathlib.Numerals.{add-one}
 use native.Mathlib.Omega.{arith}
 use lib.ListN.{length, set, length-append}
 use lib.Seq.{sets}
 use Rattle.text.specs.Line.{lf, comma}
+use Rattle.files.specs.declared.output.Form.{Form}
+use Rattle.files.specs.declared.output.Form.the-variants.{Changes, Record}
 use Rattle.text.specs.Number.{decimal}
-use Rattle.files.specs.Output.{pairLine, changeLine, changeRoom, endLine, endRoom}
+use Rattle.files.specs.Output.{pairLine, changeLine, changeRoom, recordRow, noteRoom, spread, endLine, endRoom}
+use Rattle.files.specs.device.Calls.{Notable, WroteWithin}
+use Rattle.rows.specs.declared.row.Row.{Row}
 use Rattle.rows.specs.Row.{lastRow}
+use Rattle.rows.proofs.RowLaws.{shortestRow}
+use Rattle.records.specs.declared.writer.RowWritten.{RowWritten}
+use Rattle.records.specs.RecordRow.{recordText, longestRecord}
+use Rattle.records.specs.Writer.{WriteAnswer, writeAnswer}
+use Rattle.records.proofs.WriterLaws.{Fits, fits-row}
+use Rattle.records.proofs.BackLaws.{record-most, write-fits}
 use Rattle.text.proofs.StoreLaws.{sets-append}
 use Rattle.text.proofs.DecimalLaws.{decimal-length, decimal-short}
 
@@ -35,3 +45,33 @@ change-short row outputs h k =
 -- an end line at most 4 + 10 + 1 + 10 + 1
 pub end-short : (done refusal : ℕ) → length (endLine done refusal) ≤ endRoom
 end-short done refusal = omega (arith, pair-length done refusal, decimal-length 9 done, decimal-length 9 refusal)
+
+-- ---- a row of the record
+
+record-fits : (done : ℕ) (x : Row) (outputs at room : ℕ) → Notable Record done x at room → Fits (recordRow (done + 1) x outputs)
+record-fits done x outputs at room h =
+    record { some = omega arith; most = omega (arith, h .number); first = h .first; second = h .second; third = h .third }
+
+-- what its writer answered
+pub record-written : (done : ℕ) (x : Row) (outputs at : ℕ) (out after : List ℕ) (r : RowWritten) → Notable Record done x at (length out)
+    → record { answer = r; buffer = after } ≡ writeAnswer out at (recordRow (done + 1) x outputs)
+    → WroteWithin longestRecord out after at (r .place) (recordText (recordRow (done + 1) x outputs))
+record-written done x outputs at out after r h e =
+    let row = recordRow (done + 1) x outputs in
+    let f = record-fits done x outputs at (length out) h in
+    let w = e ∙ write-fits out at row f (h .free) in
+    let place : r .place ≡ at + length (recordText row) = ap (λ (a : WriteAnswer). a .answer .place) w in
+    record {
+      wrote = record { place-after = place; output = ap (λ (a : WriteAnswer). a .buffer) w };
+      short = omega (arith, place, record-most row (fits-row row f));
+    }
+
+-- ---- room for what an accepted row writes, by its length
+
+pub row-room : (form : Form) (at long room : ℕ) → shortestRow ≤ long → at + spread form * long ≤ room → at + noteRoom form ≤ room
+row-room Changes at long room h k = omega arith
+row-room Record at long room h k = omega arith
+
+pub row-short : (form : Form) (written at long : ℕ) → shortestRow ≤ long → written ≤ at + noteRoom form → written ≤ at + spread form * long
+row-short Changes written at long h k = omega arith
+row-short Record written at long h k = omega arith

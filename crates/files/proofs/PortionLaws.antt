@@ -1,4 +1,4 @@
--- The replay fed by portions: that what is written is `replayOf` of the whole input.
+-- The replay fed by portions: that what is told is that of the whole input.
 -- Assumes nothing.
 use mathlib.Core.Path.{_≡_, refl, sym, ap, _∙_}
 use mathlib.Core.Bool.{Bool, true, false}
@@ -8,6 +8,7 @@ use native.Mathlib.Omega.{arith}
 use lib.Dec.{ltb}
 use lib.ListN.{length, length-take}
 use borrow.Author.Tests.{ltb-true, ltb-false}
+use Rattle.files.specs.declared.output.Form.{Form}
 use Rattle.files.specs.declared.progress.Stage.{Stage}
 use Rattle.files.specs.declared.progress.Stage.the-variants.{Stopped}
 use Rattle.files.specs.declared.progress.Progress.{Progress}
@@ -15,8 +16,8 @@ use Rattle.files.specs.declared.replay.Replay.{Replay}
 use Rattle.text.specs.declared.lines.Closer.the-variants.{CrLf}
 use Rattle.text.specs.Lines.{linesFrom, Cutting, joined}
 use Rattle.text.specs.Cutter.{heldLine, cutterAfter}
-use Rattle.files.specs.Progress.{afterLine, wroteLine, endOf, refuseBy}
-use Rattle.files.specs.Replay.{byLines, replayOf, lineLimit, freshReplay, afterLines, wroteLines, refuseIf, cutPortion, fed, writes, endsWith}
+use Rattle.files.specs.Progress.{afterLine, wroteLine, refuseBy}
+use Rattle.files.specs.Replay.{Told, endAlone, writtenFirst, byLines, toldOf, lineLimit, freshReplay, afterLines, wroteLines, refuseIf, cutPortion, fed, fedAll, Reached, writes, lastProgress}
 use Rattle.files.specs.device.Calls.{Sound}
 use Rattle.text.proofs.CutLaws.{lines-nil, last-nothing, joined-none, joined-more}
 use Rattle.text.proofs.CuttingLaws.{cut-lines, all-read, long-held}
@@ -25,22 +26,50 @@ use Rattle.files.proofs.RefusedLaws.{by-nil, stopped-ends, refused-ends
 
 -- ---- a sound state stays sound
 
-pub fresh-sound : Sound freshReplay
-fresh-sound = empty-holds CrLf lineLimit (omega arith)
+pub fresh-sound : (form : Form) → Sound (freshReplay form)
+fresh-sound form = empty-holds CrLf lineLimit (omega arith)
 
 pub fed-sound : (r : Replay) (s : List ℕ) → Sound r → Sound (fed r s)
 unfolding fed
 fed-sound r s h = still-holds CrLf lineLimit (omega arith) (r .cutter) s h
 
+-- ---- states that come of another by some portions
+
+pub reached-here : (r : Replay) → Reached r r
+reached-here r = record { portions = []; state = refl }
+
+pub reached-fed : (r q : Replay) (s : List ℕ) → q ≡ fed r s → Reached r q
+reached-fed r q s e = record { portions = s ∷ []; state = e }
+
+fed-append : (r : Replay) (ps qs : List (List ℕ)) → fedAll (fedAll r ps) qs ≡ fedAll r (ps ++ qs)
+fed-append r [] qs = refl
+fed-append r (p ∷ ps) qs = fed-append (fed r p) ps qs
+
+pub reached-on : (r q t : Replay) → Reached r q → Reached q t → Reached r t
+reached-on r q t a b =
+    record { portions = a .portions ++ b .portions; state = b .state ∙ ap (λ (x : Replay). fedAll x (b .portions)) (a .state) ∙ fed-append r (a .portions) (b .portions) }
+
+all-sound : (r : Replay) (ps : List (List ℕ)) → Sound r → Sound (fedAll r ps)
+all-sound r [] h = h
+all-sound r (p ∷ ps) h = all-sound (fed r p) ps (fed-sound r p h)
+
+pub reached-sound : (r q : Replay) → Sound r → Reached r q → Sound q
+reached-sound r q h a = rw (a .state) (all-sound r (a .portions) h)
+
 -- ---- what is still to be written: the replay, line by line, of the line held and the rest of the input
 
-by-lines-append : (p : Progress) (ls ms : List (List ℕ)) → byLines p (ls ++ ms) ≡ wroteLines p ls ++ byLines (afterLines p ls) ms
-unfolding byLines wroteLines afterLines
-by-lines-append p [] ms = refl
-by-lines-append p (l ∷ ls) ms = rw (by-lines-append (afterLine p l) ls ms) (sym (append-assoc (wroteLine p l) _ _))
+first-twice : (v w : List ℕ) (x : Told) → writtenFirst v (writtenFirst w x) ≡ writtenFirst (v ++ w) x
+first-twice v w x = ap (λ (rows : List ℕ). record { rows = rows; end = x .end }) (sym (append-assoc v w (x .rows)))
 
-unfoldable left : Replay → List ℕ → List ℕ
-left r s = byLines (r .progress) (linesFrom CrLf (heldLine (r .cutter)) s)
+by-lines-append : (form : Form) (p : Progress) (ls ms : List (List ℕ)) → byLines form p (ls ++ ms) ≡ writtenFirst (wroteLines form p ls) (byLines form (afterLines p ls) ms)
+unfolding byLines wroteLines afterLines
+by-lines-append form p [] ms = refl
+by-lines-append form p (l ∷ ls) ms =
+    ap (writtenFirst (wroteLine form p l)) (by-lines-append form (afterLine p l) ls ms)
+    ∙ first-twice (wroteLine form p l) (wroteLines form (afterLine p l) ls) (byLines form (afterLines (afterLine p l) ls) ms)
+
+unfoldable left : Replay → List ℕ → Told
+left r s = byLines (r .form) (r .progress) (linesFrom CrLf (heldLine (r .cutter)) s)
 
 module _ (r : Replay) (s t : List ℕ) (h : Sound r) where
   abbrev x : Cutting
@@ -50,52 +79,52 @@ module _ (r : Replay) (s t : List ℕ) (h : Sound r) where
   p = afterLines (r .progress) (x .lines)
 
   -- a line too long stops the replay, wherever it ends
-  rest-by : (b : Bool) → x .tooLong ≡ b → byLines p (linesFrom CrLf (x .held) (x .unread ++ t)) ≡ byLines (refuseIf b p) (linesFrom CrLf (heldLine (cutterAfter x (r .cutter) s)) t)
+  rest-by : (b : Bool) → x .tooLong ≡ b → byLines (r .form) p (linesFrom CrLf (x .held) (x .unread ++ t)) ≡ byLines (r .form) (refuseIf b p) (linesFrom CrLf (heldLine (cutterAfter x (r .cutter) s)) t)
   unfolding refuseIf
   rest-by true e =
-      long-ends p (x .held) (x .unread ++ t) (omega (arith, long-held CrLf lineLimit (heldLine (r .cutter)) s e))
-      ∙ sym (refused-ends p (linesFrom CrLf (heldLine (cutterAfter x (r .cutter) s)) t))
+      long-ends (r .form) p (x .held) (x .unread ++ t) (omega (arith, long-held CrLf lineLimit (heldLine (r .cutter)) s e))
+      ∙ sym (refused-ends (r .form) p (linesFrom CrLf (heldLine (cutterAfter x (r .cutter) s)) t))
   rest-by false e = rw (all-read CrLf lineLimit (heldLine (r .cutter)) s e, line-kept CrLf lineLimit (omega arith) (r .cutter) s h e)
 
-  left-fed : left r (s ++ t) ≡ writes r s ++ left (fed r s) t
+  left-fed : left r (s ++ t) ≡ writtenFirst (writes r s) (left (fed r s) t)
   unfolding left fed writes
   left-fed =
-      ap (byLines (r .progress)) (cut-lines CrLf lineLimit (heldLine (r .cutter)) s t)
-      ∙ by-lines-append (r .progress) (x .lines) (linesFrom CrLf (x .held) (x .unread ++ t))
-      ∙ ap (λ (l : List ℕ). wroteLines (r .progress) (x .lines) ++ l) (rest-by (x .tooLong) refl)
+      ap (byLines (r .form) (r .progress)) (cut-lines CrLf lineLimit (heldLine (r .cutter)) s t)
+      ∙ by-lines-append (r .form) (r .progress) (x .lines) (linesFrom CrLf (x .held) (x .unread ++ t))
+      ∙ ap (writtenFirst (wroteLines (r .form) (r .progress) (x .lines))) (rest-by (x .tooLong) refl)
 
 -- the end of the input
 held-nothing : (r : Replay) → r .cutter .count ≡ 0 → heldLine (r .cutter) ≡ []
 held-nothing r e = rw e
 
 module _ (r : Replay) (h : Sound r) where
-  end-if : (t : Bool) → ltb 0 (r .cutter .count) ≡ t → left r [] ≡ endOf (refuseIf t (r .progress))
+  end-if : (t : Bool) → ltb 0 (r .cutter .count) ≡ t → left r [] ≡ endAlone (refuseIf t (r .progress))
   unfolding left refuseIf
   end-if true e =
       let k : 0 < length (heldLine (r .cutter)) = rw length-take (omega (arith, h .short, h .room, ltb-true 0 (r .cutter .count) e)) in
-      open-ends (r .progress) (heldLine (r .cutter)) k (h .unclosed)
+      open-ends (r .form) (r .progress) (heldLine (r .cutter)) k (h .unclosed)
   end-if false e =
       let z : r .cutter .count ≡ 0 = omega (arith, ltb-false 0 (r .cutter .count) e) in
-      rw (held-nothing r z, lines-nil CrLf [], last-nothing) (by-nil (r .progress))
+      rw (held-nothing r z, lines-nil CrLf [], last-nothing) (by-nil (r .form) (r .progress))
 
-  left-end : left r [] ≡ endsWith r
+  left-end : left r [] ≡ endAlone (lastProgress r)
   left-end = end-if (ltb 0 (r .cutter .count)) refl
 
 -- ---- portions, one after the other, and then the end
 
-unfoldable pub feedAll : Replay → List (List ℕ) → List ℕ
-feedAll r [] = endsWith r
-feedAll r (p ∷ ps) = writes r p ++ feedAll (fed r p) ps
+unfoldable pub feedAll : Replay → List (List ℕ) → Told
+feedAll r [] = endAlone (lastProgress r)
+feedAll r (p ∷ ps) = writtenFirst (writes r p) (feedAll (fed r p) ps)
 
 portions-left : (r : Replay) (ps : List (List ℕ)) → Sound r → feedAll r ps ≡ left r (joined ps)
 unfolding feedAll
 portions-left r [] h = rw joined-none (sym (left-end r h))
 portions-left r (p ∷ ps) h = rw (joined-more p ps, portions-left (fed r p) ps (fed-sound r p h)) (sym (left-fed r p (joined ps) h))
 
--- WHAT IS WRITTEN DOES NOT DEPEND ON THE PORTIONS: for any cutting of the input it is the replay of the input
-pub replay-of-portions : (ps : List (List ℕ)) → feedAll freshReplay ps ≡ replayOf (joined ps)
-unfolding replayOf left
-replay-of-portions ps = portions-left freshReplay ps fresh-sound
+-- WHAT IS WRITTEN DOES NOT DEPEND ON THE PORTIONS: for any cutting of the input it is what the whole input gives
+pub told-of-portions : (form : Form) (ps : List (List ℕ)) → feedAll (freshReplay form) ps ≡ toldOf form (joined ps)
+unfolding toldOf left
+told-of-portions form ps = portions-left (freshReplay form) ps (fresh-sound form)
 
 -- ---- once stopped, what follows need not be read
 
@@ -104,12 +133,12 @@ unfolding refuseBy
 refuse-stopped g p n e = ap (λ (q : Stage). refuseBy q p) e
 
 module _ (r : Replay) (n : ℕ) (e : r .progress .stage ≡ Stopped n) where
-  stopped-if : (t : Bool) → endOf (refuseIf t (r .progress)) ≡ endOf (r .progress)
+  stopped-if : (t : Bool) → endAlone (refuseIf t (r .progress)) ≡ endAlone (r .progress)
   unfolding refuseIf
-  stopped-if true = ap endOf (refuse-stopped (r .progress .stage) (r .progress) n e)
+  stopped-if true = ap endAlone (refuse-stopped (r .progress .stage) (r .progress) n e)
   stopped-if false = refl
 
-  pub stop-early : (ps : List (List ℕ)) → Sound r → feedAll r ps ≡ endsWith r
+  pub stop-early : (ps : List (List ℕ)) → Sound r → feedAll r ps ≡ endAlone (lastProgress r)
   unfolding left
   stop-early ps h =
-      portions-left r ps h ∙ stopped-ends (r .progress) n (linesFrom CrLf (heldLine (r .cutter)) (joined ps)) e ∙ sym (stopped-if (ltb 0 (r .cutter .count)))
+      portions-left r ps h ∙ stopped-ends (r .form) (r .progress) n (linesFrom CrLf (heldLine (r .cutter)) (joined ps)) e ∙ sym (stopped-if (ltb 0 (r .cutter .count)))

@@ -11,79 +11,81 @@ use Rattle.relay.specs.declared.tick.RelayTicked.{RelayTicked}
 use Rattle.rows.specs.declared.row.Row.{Row}
 use Rattle.rows.specs.declared.row.RowRead.{RowRead}
 use Rattle.rows.specs.declared.row.RowRead.the-variants.{Accepted, Refused}
+use Rattle.files.specs.declared.output.Form.{Form}
 use Rattle.files.specs.declared.progress.Stage.{Stage}
 use Rattle.files.specs.declared.progress.Stage.the-variants.{Opening, Running, Stopped}
 use Rattle.files.specs.declared.progress.Progress.{Progress}
 use Rattle.files.specs.declared.progress.Noted.{Noted}
 use Rattle.rows.specs.SettingsLine.{settingsLineAnswer}
-use Rattle.files.specs.Progress.{stopped, opened, rowDone, afterTick, wroteTick, stepped, changed, afterRow, wroteRow, changeOf, ticked, afterBy, wroteBy, afterLine, wroteLine}
+use Rattle.files.specs.Output.{noteOf}
+use Rattle.files.specs.Progress.{stopped, opened, rowDone, afterTick, wroteTick, stepped, noted, afterRow, wroteRow, ticked, afterBy, wroteBy, afterLine, wroteLine}
 use Rattle.files.specs.device.Calls.{notedOf}
 
 -- ---- a row
 
 -- the tick of an accepted row
-module _ (p : Progress) (t : RelayTicked) where
+module _ (form : Form) (p : Progress) (x : Row) (t : RelayTicked) where
   module _ (e : t .refusal ≡ 0) where
-    pub tick-output : (out out' : List ℕ) (at : ℕ) → out' ≡ sets out at (changeOf (p .done + 1) (t .outputs) (p .outputs)) → out' ≡ sets out at (wroteTick p t)
+    pub tick-output : (out out' : List ℕ) (at : ℕ) → out' ≡ sets out at (noteOf form (p .done + 1) x (t .outputs) (p .outputs)) → out' ≡ sets out at (wroteTick form p x t)
     tick-output out out' at h = rw (eq-eqb (t .refusal) 0 e) h
 
-    pub tick-noted : (end at : ℕ) → end ≡ at + length (changeOf (p .done + 1) (t .outputs) (p .outputs)) → record { progress = rowDone p t; written = end } ≡ notedOf (afterTick p t) (wroteTick p t) at
+    pub tick-noted : (end at : ℕ) → end ≡ at + length (noteOf form (p .done + 1) x (t .outputs) (p .outputs)) → record { progress = rowDone p t; written = end } ≡ notedOf (afterTick p t) (wroteTick form p x t) at
     tick-noted end at h = rw (eq-eqb (t .refusal) 0 e, h)
 
   module _ (e : t .refusal ≡ 0 → ⊥) where
-    pub refused-tick-quiet : (out : List ℕ) (at : ℕ) → out ≡ sets out at (wroteTick p t)
+    pub refused-tick-quiet : (out : List ℕ) (at : ℕ) → out ≡ sets out at (wroteTick form p x t)
     refused-tick-quiet out at = rw (ne-eqb (t .refusal) 0 e)
 
-    pub refused-tick-noted : (s : Progress) (at : ℕ) → s ≡ stopped (t .refusal) p → record { progress = s; written = at } ≡ notedOf (afterTick p t) (wroteTick p t) at
+    pub refused-tick-noted : (s : Progress) (at : ℕ) → s ≡ stopped (t .refusal) p → record { progress = s; written = at } ≡ notedOf (afterTick p t) (wroteTick form p x t) at
     refused-tick-noted s at h =
         let z : at + 0 ≡ at = omega arith in
         rw (ne-eqb (t .refusal) 0 e, h, z)
 
-module _ (p : Progress) (a : RowRead) (x : Row) (t : RelayTicked) (q : a ≡ Accepted x) (e : t ≡ ticked p x) where
-  pub accepted-output : (out out' : List ℕ) (at : ℕ) → out' ≡ sets out at (wroteTick p t) → out' ≡ sets out at (changed p a)
-  accepted-output out out' at h = h ∙ ap (sets out at) (ap (wroteTick p) e ∙ sym (ap (changed p) q))
+module _ (form : Form) (p : Progress) (a : RowRead) (x : Row) (t : RelayTicked) (q : a ≡ Accepted x) (e : t ≡ ticked p x) where
+  pub accepted-output : (out out' : List ℕ) (at : ℕ) → out' ≡ sets out at (wroteTick form p x t) → out' ≡ sets out at (noted form p a)
+  accepted-output out out' at h = h ∙ ap (sets out at) (ap (wroteTick form p x) e ∙ sym (ap (noted form p) q))
 
-  pub accepted-noted : (r : Noted) (at : ℕ) → r ≡ notedOf (afterTick p t) (wroteTick p t) at → r ≡ notedOf (stepped p a) (changed p a) at
+  pub accepted-noted : (r : Noted) (at : ℕ) → r ≡ notedOf (afterTick p t) (wroteTick form p x t) at → r ≡ notedOf (stepped p a) (noted form p a) at
   accepted-noted r at h =
-      h ∙ ap (λ (y : RelayTicked). notedOf (afterTick p y) (wroteTick p y) at) e ∙ sym (ap (λ (y : RowRead). notedOf (stepped p y) (changed p y) at) q)
+      h ∙ ap (λ (y : RelayTicked). notedOf (afterTick p y) (wroteTick form p x y) at) e ∙ sym (ap (λ (y : RowRead). notedOf (stepped p y) (noted form p y) at) q)
 
-module _ (p : Progress) (a : RowRead) (n : ℕ) (q : a ≡ Refused n) where
-  pub refused-noted : (s : Progress) (at : ℕ) → s ≡ stopped n p → record { progress = s; written = at } ≡ notedOf (stepped p a) (changed p a) at
+module _ (form : Form) (p : Progress) (a : RowRead) (n : ℕ) (q : a ≡ Refused n) where
+  pub refused-noted : (s : Progress) (at : ℕ) → s ≡ stopped n p → record { progress = s; written = at } ≡ notedOf (stepped p a) (noted form p a) at
   refused-noted s at e = let z : at + 0 ≡ at = omega arith in rw (q, e, z)
 
-  pub refused-quiet : (out : List ℕ) (at : ℕ) → out ≡ sets out at (changed p a)
+  pub refused-quiet : (out : List ℕ) (at : ℕ) → out ≡ sets out at (noted form p a)
   refused-quiet out at = rw q
 
 -- ---- a line, by the stage
 
-module _ (p : Progress) (l : List ℕ) (at : ℕ) where
-  pub opening-noted : (s : Progress) → p .stage ≡ Opening → s ≡ opened p (settingsLineAnswer l) → record { progress = s; written = at } ≡ notedOf (afterLine p l) (wroteLine p l) at
+module _ (form : Form) (p : Progress) (l : List ℕ) (at : ℕ) where
+  pub opening-noted : (s : Progress) → p .stage ≡ Opening → s ≡ opened p (settingsLineAnswer l) → record { progress = s; written = at } ≡ notedOf (afterLine p l) (wroteLine form p l) at
   unfolding afterBy wroteBy
   opening-noted s e h =
       let z : at ≡ at + 0 = omega arith in
       ap (λ (x : Progress). record { progress = x; written = at }) h
       ∙ ap (λ (n : ℕ). record { progress = opened p (settingsLineAnswer l); written = n }) z
-      ∙ ap (λ (g : Stage). notedOf (afterBy g p l) (wroteBy g p l) at) (sym e)
+      ∙ ap (λ (g : Stage). notedOf (afterBy g p l) (wroteBy g form p l) at) (sym e)
 
-  pub stopped-noted : (n : ℕ) → p .stage ≡ Stopped n → record { progress = p; written = at } ≡ notedOf (afterLine p l) (wroteLine p l) at
+  pub stopped-noted : (n : ℕ) → p .stage ≡ Stopped n → record { progress = p; written = at } ≡ notedOf (afterLine p l) (wroteLine form p l) at
   unfolding afterBy wroteBy
   stopped-noted n e =
       let z : at ≡ at + 0 = omega arith in
-      ap (λ (n : ℕ). record { progress = p; written = n }) z ∙ ap (λ (g : Stage). notedOf (afterBy g p l) (wroteBy g p l) at) (sym e)
+      ap (λ (n : ℕ). record { progress = p; written = n }) z ∙ ap (λ (g : Stage). notedOf (afterBy g p l) (wroteBy g form p l) at) (sym e)
 
-  pub opening-quiet : (out : List ℕ) → p .stage ≡ Opening → out ≡ sets out at (wroteLine p l)
+  pub opening-quiet : (out : List ℕ) → p .stage ≡ Opening → out ≡ sets out at (wroteLine form p l)
   unfolding wroteBy
-  opening-quiet out e = ap (λ (g : Stage). sets out at (wroteBy g p l)) (sym e)
+  opening-quiet out e = ap (λ (g : Stage). sets out at (wroteBy g form p l)) (sym e)
 
-  pub stopped-quiet : (out : List ℕ) (n : ℕ) → p .stage ≡ Stopped n → out ≡ sets out at (wroteLine p l)
+  pub stopped-quiet : (out : List ℕ) (n : ℕ) → p .stage ≡ Stopped n → out ≡ sets out at (wroteLine form p l)
   unfolding wroteBy
-  stopped-quiet out n e = ap (λ (g : Stage). sets out at (wroteBy g p l)) (sym e)
+  stopped-quiet out n e = ap (λ (g : Stage). sets out at (wroteBy g form p l)) (sym e)
 
   module _ (e : p .stage ≡ Running) where
-    pub running-output : (out out' : List ℕ) → out' ≡ sets out at (wroteRow p l) → out' ≡ sets out at (wroteLine p l)
+    pub running-output : (out out' : List ℕ) → out' ≡ sets out at (wroteRow form p l) → out' ≡ sets out at (wroteLine form p l)
     unfolding wroteBy
-    running-output out out' h = h ∙ ap (λ (g : Stage). sets out at (wroteBy g p l)) (sym e)
+    running-output out out' h = h ∙ ap (λ (g : Stage). sets out at (wroteBy g form p l)) (sym e)
 
-    pub running-noted : (r : Noted) → r ≡ notedOf (afterRow p l) (wroteRow p l) at → r ≡ notedOf (afterLine p l) (wroteLine p l) at
+    pub running-noted : (r : Noted) → r ≡ notedOf (afterRow p l) (wroteRow form p l) at → r ≡ notedOf (afterLine p l) (wroteLine form p l) at
     unfolding afterBy wroteBy
-    running-noted r q = q ∙ ap (λ (g : Stage). notedOf (afterBy g p l) (wroteBy g p l) at) (sym e)
+    running-noted r q = q ∙ ap (λ (g : Stage). notedOf (afterBy g p l) (wroteBy g form p l) at) (sym e)

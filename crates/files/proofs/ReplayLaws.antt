@@ -1,13 +1,15 @@
--- The replay of some inputs, whole.
+-- What some inputs give, whole; and the ends of replay and record.
 -- Assumes nothing.
 use mathlib.Core.Path.{_≡_, refl, sym, ap, _∙_}
 use mathlib.Core.Bool.{false}
-use mathlib.Core.List.{List, [], _∷_, append-nil}
+use mathlib.Core.List.{List, [], _∷_, _++_, append-nil}
 use Prim.Native.Nat.{ℕ, _<_}
 use native.Mathlib.Omega.{arith}
 use lib.ListN.{length}
 use Rattle.rows.specs.declared.settings_line.SettingsRead.{SettingsRead}
 use Rattle.rows.specs.declared.settings_line.SettingsRead.the-variants.{Accepted}
+use Rattle.files.specs.declared.output.Form.{Form}
+use Rattle.files.specs.declared.output.Form.the-variants.{Changes, Record}
 use Rattle.files.specs.declared.progress.Progress.{Progress}
 use Rattle.text.specs.Line.{numbersOf}
 use Rattle.rows.specs.SettingsLine.{settingsWidths, settingsIn, settingsLineRefusal, settingsLineAnswer}
@@ -15,58 +17,80 @@ use Rattle.files.specs.Output.{endLine}
 use Rattle.text.specs.declared.lines.Closer.the-variants.{CrLf}
 use Rattle.text.specs.Lines.{linesOf}
 use Rattle.rows.specs.Refusals.{wrongShape}
-use Rattle.files.specs.Progress.{freshProgress, stopped, opened, afterBy, wroteBy, endRefusal, endOf}
-use Rattle.files.specs.Replay.{byLines, replayOf}
+use Rattle.files.specs.Progress.{freshProgress, stopped, opened, afterBy, afterLine, wroteBy, endRefusal}
+use Rattle.files.specs.Replay.{Told, endAlone, byLines, toldOf, replayOf, recordOf}
 use Rattle.rows.proofs.SettingsLineLaws.{settings-refused, settings-misshapen, settings-answer, settings-line-passed}
 use Rattle.files.proofs.RefusedLaws.{open-misshapen, stopped-ends}
 use Rattle.text.proofs.CutLaws.{lines-nil, last-nothing, last-line}
 use Rattle.text.proofs.LinesLaws.{hasCrLf, has-ends, open-input, line-first}
 
--- "an empty input (12)"
-pub replay-of-nothing : replayOf [] ≡ endLine 0 wrongShape
-unfolding replayOf byLines endRefusal
-replay-of-nothing = rw (lines-nil CrLf [], last-nothing)
+-- the end line alone, in any form: `end,0,` and a number
+abbrev pub onlyEnd : ℕ → Told
+onlyEnd n = record { rows = []; end = endLine 0 n }
 
--- the first line is the settings line
-opening : (l : List ℕ) (ls : List (List ℕ)) → byLines freshProgress (l ∷ ls) ≡ byLines (opened freshProgress (settingsLineAnswer l)) ls
-unfolding byLines afterBy wroteBy
-opening l ls = refl
+-- such an input's replay is the end line, and its record is empty
+pub replay-of-end : (s : List ℕ) (n : ℕ) → toldOf Changes s ≡ onlyEnd n → replayOf s ≡ endLine 0 n
+replay-of-end s n e = ap (λ (x : Told). x .rows ++ x .end) e
 
-stopped-end : (n : ℕ) (p : Progress) → endOf (stopped n p) ≡ endLine (p .done) n
-unfolding endRefusal
-stopped-end n p = refl
+pub record-of-end : (s : List ℕ) (n : ℕ) → toldOf Record s ≡ onlyEnd n → recordOf s ≡ []
+record-of-end s n e = ap (λ (x : Told). x .rows) e
 
-refused-opening : (l : List ℕ) (ls : List (List ℕ)) (n : ℕ) → settingsLineRefusal l ≡ n → (n ≡ 0 → ⊥) → byLines freshProgress (l ∷ ls) ≡ endLine 0 n
-refused-opening l ls n e k =
-    opening l ls
-    ∙ ap (λ (a : SettingsRead). byLines (opened freshProgress a) ls) (sym (settings-refused l n e k))
-    ∙ stopped-ends (stopped n freshProgress) n ls refl
-    ∙ stopped-end n freshProgress
+-- the record's end line is the replay's: the form decides what rows write, and nothing else
+same-end : (p : Progress) (ls : List (List ℕ)) → byLines Record p ls .end ≡ byLines Changes p ls .end
+unfolding byLines
+same-end p [] = refl
+same-end p (l ∷ ls) = same-end (afterLine p l) ls
 
--- "A refused settings line .. gives only `end,0,` and the number", whatever follows
-pub replay-of-refused-settings : (s l : List ℕ) (ls : List (List ℕ)) (n : ℕ) → linesOf CrLf s ≡ l ∷ ls → settingsLineRefusal l ≡ n → (n ≡ 0 → ⊥)
-    → replayOf s ≡ endLine 0 n
-unfolding replayOf
-replay-of-refused-settings s l ls n e h k = ap (byLines freshProgress) e ∙ refused-opening l ls n h k
-
--- an input without CR LF, such as a settings line that is not closed
-pub replay-of-open-line : (s : List ℕ) → 0 < length s → hasCrLf s ≡ false → replayOf s ≡ endLine 0 wrongShape
-replay-of-open-line s h k =
-    replay-of-refused-settings s s [] wrongShape (open-input s k ∙ last-line s h) (settings-misshapen s (open-misshapen s (has-ends s k) .no-settings)) (λ e. omega arith)
+pub record-ends-as-replay : (s : List ℕ) → toldOf Record s .end ≡ toldOf Changes s .end
+unfolding toldOf
+record-ends-as-replay s = same-end freshProgress (linesOf CrLf s)
 
 lines-one : (l : List ℕ) → settingsLineRefusal l ≡ 0 → linesOf CrLf l ≡ l ∷ []
 lines-one l e =
     ap (linesOf CrLf) (sym (append-nil l)) ∙ line-first settingsWidths l [] (settings-line-passed l e .0) ∙ rw (lines-nil CrLf [], last-nothing)
 
-end-running : (l : List ℕ) → byLines (opened freshProgress (Accepted (settingsIn (numbersOf l)))) [] ≡ endLine 0 0
-unfolding byLines endRefusal
-end-running l = refl
+module _ (form : Form) where
+  -- "an empty input (12)"
+  pub told-of-nothing : toldOf form [] ≡ onlyEnd wrongShape
+  unfolding toldOf byLines endRefusal
+  told-of-nothing = rw (lines-nil CrLf [], last-nothing)
 
--- an accepted settings line alone
-pub replay-of-settings-alone : (l : List ℕ) → settingsLineRefusal l ≡ 0 → replayOf l ≡ endLine 0 0
-unfolding replayOf
-replay-of-settings-alone l e =
-    ap (byLines freshProgress) (lines-one l e)
-    ∙ opening l []
-    ∙ ap (λ (a : SettingsRead). byLines (opened freshProgress a) []) (settings-answer l e)
-    ∙ end-running l
+  -- the first line is the settings line
+  opening : (l : List ℕ) (ls : List (List ℕ)) → byLines form freshProgress (l ∷ ls) ≡ byLines form (opened freshProgress (settingsLineAnswer l)) ls
+  unfolding byLines afterBy wroteBy
+  opening l ls = refl
+
+  stopped-end : (n : ℕ) → endAlone (stopped n freshProgress) ≡ onlyEnd n
+  unfolding endRefusal
+  stopped-end n = refl
+
+  refused-opening : (l : List ℕ) (ls : List (List ℕ)) (n : ℕ) → settingsLineRefusal l ≡ n → (n ≡ 0 → ⊥) → byLines form freshProgress (l ∷ ls) ≡ onlyEnd n
+  refused-opening l ls n e k =
+      opening l ls
+      ∙ ap (λ (a : SettingsRead). byLines form (opened freshProgress a) ls) (sym (settings-refused l n e k))
+      ∙ stopped-ends form (stopped n freshProgress) n ls refl
+      ∙ stopped-end n
+
+  -- "A refused settings line .. gives only `end,0,` and the number", whatever follows
+  pub told-of-refused-settings : (s l : List ℕ) (ls : List (List ℕ)) (n : ℕ) → linesOf CrLf s ≡ l ∷ ls → settingsLineRefusal l ≡ n → (n ≡ 0 → ⊥)
+      → toldOf form s ≡ onlyEnd n
+  unfolding toldOf
+  told-of-refused-settings s l ls n e h k = ap (byLines form freshProgress) e ∙ refused-opening l ls n h k
+
+  -- an input without CR LF, such as a settings line that is not closed
+  pub told-of-open-line : (s : List ℕ) → 0 < length s → hasCrLf s ≡ false → toldOf form s ≡ onlyEnd wrongShape
+  told-of-open-line s h k =
+      told-of-refused-settings s s [] wrongShape (open-input s k ∙ last-line s h) (settings-misshapen s (open-misshapen s (has-ends s k) .no-settings)) (λ e. omega arith)
+
+  end-running : (l : List ℕ) → byLines form (opened freshProgress (Accepted (settingsIn (numbersOf l)))) [] ≡ onlyEnd 0
+  unfolding byLines endRefusal
+  end-running l = refl
+
+  -- an accepted settings line alone
+  pub told-of-settings-alone : (l : List ℕ) → settingsLineRefusal l ≡ 0 → toldOf form l ≡ onlyEnd 0
+  unfolding toldOf
+  told-of-settings-alone l e =
+      ap (byLines form freshProgress) (lines-one l e)
+      ∙ opening l []
+      ∙ ap (λ (a : SettingsRead). byLines form (opened freshProgress a) []) (settings-answer l e)
+      ∙ end-running l

@@ -1,4 +1,5 @@
--- How far a replay has come, line by line (01, 'Rows and the replay program').
+-- How far a replay has come, line by line (01, 'Rows and the replay program'). The form decides what rows write, and nothing
+-- else.
 use mathlib.Core.Bool.{cond}
 use mathlib.Core.List.{List, []}
 use Prim.Native.Nat.{ℕ, _+_}
@@ -12,13 +13,14 @@ use Rattle.rows.specs.declared.row.RowRead.{RowRead}
 use Rattle.rows.specs.declared.row.RowRead.the-variants as row
 use Rattle.rows.specs.declared.settings_line.SettingsRead.{SettingsRead}
 use Rattle.rows.specs.declared.settings_line.SettingsRead.the-variants as settings-line
+use Rattle.files.specs.declared.output.Form.{Form}
 use Rattle.files.specs.declared.progress.Stage.{Stage}
 use Rattle.files.specs.declared.progress.Stage.the-variants.{Opening, Running, Stopped}
 use Rattle.files.specs.declared.progress.Progress.{Progress}
 use Rattle.rows.specs.Refusals.{wrongShape}
 use Rattle.rows.specs.Row.{rowAnswer}
 use Rattle.rows.specs.SettingsLine.{settingsLineAnswer}
-use Rattle.files.specs.Output.{changeLine, endLine}
+use Rattle.files.specs.Output.{noteOf, endLine}
 
 -- no settings have been read yet
 abbrev pub noSettings : Settings
@@ -63,22 +65,19 @@ abbrev pub stepped : Progress → RowRead → Progress
 stepped p (row.Accepted x) = afterTick p (ticked p x)
 stepped p (row.Refused n) = stopped n p
 
--- "one line, row number and output byte, for each tick whose byte differs from the one before"
-abbrev pub changeOf : ℕ → ℕ → ℕ → List ℕ
-changeOf number outputs before = cond (eqb outputs before) [] (changeLine number outputs)
+-- what the tick of a row writes: only one that is done writes anything
+abbrev pub wroteTick : Form → Progress → Row → RelayTicked → List ℕ
+wroteTick form p x t = cond (eqb (t .refusal) 0) (noteOf form (p .done + 1) x (t .outputs) (p .outputs)) []
 
-abbrev pub wroteTick : Progress → RelayTicked → List ℕ
-wroteTick p t = cond (eqb (t .refusal) 0) (changeOf (p .done + 1) (t .outputs) (p .outputs)) []
-
-abbrev pub changed : Progress → RowRead → List ℕ
-changed p (row.Accepted x) = wroteTick p (ticked p x)
-changed p (row.Refused n) = []
+abbrev pub noted : Form → Progress → RowRead → List ℕ
+noted form p (row.Accepted x) = wroteTick form p x (ticked p x)
+noted form p (row.Refused n) = []
 
 abbrev pub afterRow : Progress → List ℕ → Progress
 afterRow p l = stepped p (rowAnswer l (p .done))
 
-abbrev pub wroteRow : Progress → List ℕ → List ℕ
-wroteRow p l = changed p (rowAnswer l (p .done))
+abbrev pub wroteRow : Form → Progress → List ℕ → List ℕ
+wroteRow form p l = noted form p (rowAnswer l (p .done))
 
 -- ---- one line of the input: how far it brings the replay, and what it writes
 
@@ -90,13 +89,13 @@ afterBy (Stopped n) p l = p
 abbrev pub afterLine : Progress → List ℕ → Progress
 afterLine p l = afterBy (p .stage) p l
 
-unfoldable pub wroteBy : Stage → Progress → List ℕ → List ℕ
-wroteBy Opening p l = []
-wroteBy Running p l = wroteRow p l
-wroteBy (Stopped n) p l = []
+unfoldable pub wroteBy : Stage → Form → Progress → List ℕ → List ℕ
+wroteBy Opening form p l = []
+wroteBy Running form p l = wroteRow form p l
+wroteBy (Stopped n) form p l = []
 
-abbrev pub wroteLine : Progress → List ℕ → List ℕ
-wroteLine p l = wroteBy (p .stage) p l
+abbrev pub wroteLine : Form → Progress → List ℕ → List ℕ
+wroteLine form p l = wroteBy (p .stage) form p l
 
 -- a line that is of wrong shape, whatever follows
 unfoldable pub refuseBy : Stage → Progress → Progress

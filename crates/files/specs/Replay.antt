@@ -1,33 +1,55 @@
--- The replay program: what it writes of its whole input (01, 'Rows and the replay program'), and what feeding it by
--- portions answers. The law `replay-of-calls` says that the bytes so written, one after the other, are those of
--- `replayOf`, however the input is cut.
+-- The replay: what it writes of its whole input (01, 'Rows and the replay program'; 02, E1), and what feeding it by portions
+-- answers. The laws `replay-of-calls` and `record-of-calls` say that the bytes so written, one after the other, are those of
+-- `replayOf` and `recordOf`, however the input is cut.
+use mathlib.Core.Path.{_≡_}
 use mathlib.Core.Bool.{Bool, true, false, _&&_}
 use mathlib.Core.List.{List, [], _∷_, _++_}
-use Prim.Native.Nat.{ℕ, _+_}
+use Prim.Native.Nat.{ℕ, _+_, _*_}
 use lib.Dec.{leb, ltb}
 use lib.ListN.{length}
 use Rattle.text.specs.declared.lines.Closer.the-variants.{CrLf}
 use Rattle.text.specs.Lines.{linesOf, Cutting, cutting}
 use Rattle.text.specs.Cutter.{emptyCutter, heldLine, cutterAfter}
+use Rattle.files.specs.declared.output.Form.{Form}
+use Rattle.files.specs.declared.output.Form.the-variants.{Changes, Record}
 use Rattle.files.specs.declared.progress.Stage.{Stage}
 use Rattle.files.specs.declared.progress.Stage.the-variants.{Opening, Running, Stopped}
 use Rattle.files.specs.declared.progress.Progress.{Progress}
 use Rattle.files.specs.declared.replay.Replay.{Replay}
 use Rattle.files.specs.declared.replay.Fed.{Fed}
-use Rattle.files.specs.Output.{endRoom}
+use Rattle.files.specs.Output.{spread, endRoom}
 use Rattle.files.specs.Progress.{freshProgress, refuse, afterLine, wroteLine, endRefusal, endOf}
 
 -- ---- the whole input
 
-unfoldable pub byLines : Progress → List (List ℕ) → List ℕ
-byLines p [] = endOf p
-byLines p (l ∷ ls) = wroteLine p l ++ byLines (afterLine p l) ls
+-- what an input gives: the bytes that its lines write, one after the other, and the end line
+pub record Told : Type 0 where
+  pub rows : List ℕ
+  pub end : List ℕ
 
--- WHAT THE PROGRAM WRITES, of its whole input
-unfoldable pub replayOf : List ℕ → List ℕ
-replayOf s = byLines freshProgress (linesOf CrLf s)
+abbrev pub endAlone : Progress → Told
+endAlone p = record { rows = []; end = endOf p }
 
--- ---- a state: the progress, and the cutter that holds the line that has begun
+-- with bytes that were written before
+abbrev pub writtenFirst : List ℕ → Told → Told
+writtenFirst bytes x = record { rows = bytes ++ x .rows; end = x .end }
+
+unfoldable pub byLines : Form → Progress → List (List ℕ) → Told
+byLines form p [] = endAlone p
+byLines form p (l ∷ ls) = writtenFirst (wroteLine form p l) (byLines form (afterLine p l) ls)
+
+unfoldable pub toldOf : Form → List ℕ → Told
+toldOf form s = byLines form freshProgress (linesOf CrLf s)
+
+-- WHAT THE REPLAY WRITES, of its whole input
+abbrev pub replayOf : List ℕ → List ℕ
+replayOf s = toldOf Changes s .rows ++ toldOf Changes s .end
+
+-- WHAT THE PROGRAM `record` WRITES: "one record row for each row done, nothing else"
+abbrev pub recordOf : List ℕ → List ℕ
+recordOf s = toldOf Record s .rows
+
+-- ---- a state: the form, the progress, and the cutter that holds the line that has begun
 
 -- "Longest row: 45 bytes"; a settings line is shorter
 abbrev pub longestLine : ℕ
@@ -37,8 +59,8 @@ longestLine = 45
 abbrev pub lineLimit : ℕ
 lineLimit = longestLine + 1
 
-abbrev pub freshReplay : Replay
-freshReplay = record { progress = freshProgress; cutter = emptyCutter }
+abbrev pub freshReplay : Form → Replay
+freshReplay form = record { form = form; progress = freshProgress; cutter = emptyCutter }
 
 -- ---- a portion: the lines that it closes, one after the other, and the line that it leaves begun
 
@@ -46,9 +68,9 @@ unfoldable pub afterLines : Progress → List (List ℕ) → Progress
 afterLines p [] = p
 afterLines p (l ∷ ls) = afterLines (afterLine p l) ls
 
-unfoldable pub wroteLines : Progress → List (List ℕ) → List ℕ
-wroteLines p [] = []
-wroteLines p (l ∷ ls) = wroteLine p l ++ wroteLines (afterLine p l) ls
+unfoldable pub wroteLines : Form → Progress → List (List ℕ) → List ℕ
+wroteLines form p [] = []
+wroteLines form p (l ∷ ls) = wroteLine form p l ++ wroteLines form (afterLine p l) ls
 
 -- a line that is too long, or that the end of the input leaves open, is of wrong shape
 unfoldable pub refuseIf : Bool → Progress → Progress
@@ -60,6 +82,7 @@ cutPortion r s = cutting CrLf lineLimit (heldLine (r .cutter)) s
 
 abbrev pub fedCut : Replay → List ℕ → Cutting → Replay
 fedCut r s x = record {
+  form = r .form;
   progress = refuseIf (x .tooLong) (afterLines (r .progress) (x .lines));
   cutter = cutterAfter x (r .cutter) s;
 }
@@ -67,16 +90,26 @@ fedCut r s x = record {
 unfoldable pub fed : Replay → List ℕ → Replay
 fed r s = fedCut r s (cutPortion r s)
 
-unfoldable pub writes : Replay → List ℕ → List ℕ
-writes r s = wroteLines (r .progress) (cutPortion r s .lines)
+-- one portion after the other
+abbrev pub fedAll : Replay → List (List ℕ) → Replay
+fedAll r [] = r
+fedAll r (p ∷ ps) = fedAll (fed r p) ps
 
--- the room that a portion's output needs at most, by the bytes held and read: no line writes more bytes than it has
-abbrev pub portionRoom : ℕ → ℕ → ℕ
-portionRoom held read = held + read
+-- a state that comes of another by some portions
+pub record Reached (begun r : Replay) : Type 0 where
+  pub portions : List (List ℕ)
+  pub state : r ≡ fedAll begun portions
+
+unfoldable pub writes : Replay → List ℕ → List ℕ
+writes r s = wroteLines (r .form) (r .progress) (cutPortion r s .lines)
+
+-- the room that a portion's output needs at most, by the bytes held and read
+abbrev pub portionRoom : Form → ℕ → ℕ → ℕ
+portionRoom form held read = spread form * (held + read)
 
 -- a portion is taken by a state that holds less than a line too long, where the output has that room
-abbrev pub takes : ℕ → ℕ → ℕ → Bool
-takes held read room = ltb held lineLimit && leb (portionRoom held read) room
+abbrev pub takes : Form → ℕ → ℕ → ℕ → Bool
+takes form held read room = ltb held lineLimit && leb (portionRoom form held read) room
 
 abbrev pub fedBy : Replay → List ℕ → Fed
 fedBy r s = record { taken = true; state = fed r s; written = length (writes r s) }
@@ -87,14 +120,14 @@ fedIf true r s = fedBy r s
 fedIf false r s = record { taken = false; state = r; written = 0 }
 
 abbrev pub feedAnswer : Replay → List ℕ → ℕ → Fed
-feedAnswer r s room = fedIf (takes (r .cutter .count) (length s) room) r s
+feedAnswer r s room = fedIf (takes (r .form) (r .cutter .count) (length s) room) r s
 
 unfoldable pub writesIf : Bool → Replay → List ℕ → List ℕ
 writesIf true r s = writes r s
 writesIf false r s = []
 
 abbrev pub feedWrites : Replay → List ℕ → ℕ → List ℕ
-feedWrites r s room = writesIf (takes (r .cutter .count) (length s) room) r s
+feedWrites r s room = writesIf (takes (r .form) (r .cutter .count) (length s) room) r s
 
 -- ---- the end of the input
 

@@ -1,13 +1,15 @@
-// Layer 4: the replay, and what it writes.
+// Layer 4: the replay, and what it writes: change lines, or the record.
 mod output;
 mod progress;
 mod replay;
 
 pub use output::END_ROOM;
+pub use output::Form;
 pub use progress::Progress;
 pub use progress::Stage;
 pub use replay::Fed;
 pub use replay::LONGEST_LINE;
+pub use replay::RECORD_SPREAD;
 pub use replay::Replay;
 pub use replay::feed;
 pub use replay::finish;

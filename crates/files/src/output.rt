@@ -1,11 +1,22 @@
-// What the replay program writes: change lines and the end line.
+// What the rows write, by the form: change lines, or rows of the record; and the end line.
 ghost use Prim.Native.Nat.{_+_, _≤_};
 ghost use lib.ListN.{length};
-ghost use Rattle.files.specs.Output.{pairLine, changeLine, changeRoom, endLine, endRoom};
+ghost use Rattle.files.specs.Output.{pairLine, changeLine, changeRoom, changeOf, recordRow, noteOf, noteRoom, endLine, endRoom};
 ghost use Rattle.rows.specs.Row.{lastRow};
-ghost use Rattle.files.specs.device.Calls.{WroteWithin};
+ghost use Rattle.records.specs.RecordRow.{recordText, longestRecord};
+ghost use Rattle.files.specs.declared.output.Form.the-variants.{Record};
+ghost use Rattle.files.specs.device.Calls.{Notable, WroteWithin};
 ghost use Rattle.text.specs.device.Calls.{Wrote};
+use records::RecordRow;
+use records::write_row;
+use rows::Row;
 use text::number::put_decimal;
+
+// A line for each change of the output byte, or a row of the record for each row done.
+pub enum Form {
+    Changes,
+    Record,
+}
 
 // Room for any end line.
 pub const END_ROOM: usize = 26;
@@ -23,11 +34,57 @@ fn put_pair(out: &mut [u8], at: usize, a: u32, b: u32) -> usize
 }
 
 // A change line, at a place.
-pub(crate) fn put_change(out: &mut [u8], at: usize, row: u32, outputs: u8) -> usize
+fn put_change(out: &mut [u8], at: usize, row: u32, outputs: u8) -> usize
     requires { ⌜ (row ≤ lastRow) × (at + changeRoom ≤ length (now out)) ⌝ }
     ensures { λ r. ⌜ WroteWithin changeRoom (now (out .entry)) (now (out .exit)) at r (changeLine row outputs) ⌝ }
 {
     put_pair(out, at, row, outputs as u32)
+}
+
+// The line of a tick whose output byte differs from the one before, and nothing for any other.
+fn note_change(out: &mut [u8], at: usize, row: u32, outputs: u8, before: u8) -> usize
+    requires { ⌜ (row ≤ lastRow) × (at + changeRoom ≤ length (now out)) ⌝ }
+    ensures { λ r. ⌜ WroteWithin changeRoom (now (out .entry)) (now (out .exit)) at r (changeOf row outputs before) ⌝ }
+{
+    if outputs == before {
+        return at;
+    }
+    put_change(out, at, row, outputs)
+}
+
+// The row of the record after `done` rows.
+fn note_record(out: &mut [u8], at: usize, done: u32, x: Row, outputs: u8) -> usize
+    requires { ⌜ Notable Record done x at (length (now out)) ⌝ }
+    ensures { λ r. ⌜ WroteWithin longestRecord (now (out .entry)) (now (out .exit)) at r (recordText (recordRow (done + 1) x outputs)) ⌝ }
+{
+    let row = RecordRow {
+        number: done + 1,
+        l1: x.l1,
+        l2: x.l2,
+        l3: x.l3,
+        outputs,
+    };
+    let written = write_row(out, at, row);
+    written.place
+}
+
+// What the row after `done` rows writes, at a place.
+pub(crate) fn note_row(
+    form: Form,
+    out: &mut [u8],
+    at: usize,
+    done: u32,
+    x: Row,
+    outputs: u8,
+    before: u8,
+) -> usize
+    requires { ⌜ Notable form done x at (length (now out)) ⌝ }
+    ensures { λ r. ⌜ WroteWithin (noteRoom form) (now (out .entry)) (now (out .exit)) at r (noteOf form (done + 1) x outputs before) ⌝ }
+{
+    match form {
+        Form::Changes => note_change(out, at, done + 1, outputs, before),
+        Form::Record => note_record(out, at, done, x, outputs),
+    }
 }
 
 // The end line, at the front.

@@ -1,20 +1,21 @@
 // The replay, line by line: the settings line, then the rows.
 ghost use mathlib.Core.Path.{_≡_};
 ghost use mathlib.Core.List.{List};
-ghost use Prim.Native.Nat.{ℕ, _+_, _≤_, _<_};
+ghost use Prim.Native.Nat.{ℕ, _+_, _*_, _≤_};
 ghost use lib.ListN.{length};
-ghost use Rattle.rows.specs.Row.{lastRow};
 ghost use Rattle.rows.specs.SettingsLine.{settingsLineAnswer};
-ghost use Rattle.files.specs.Output.{changeRoom, endRoom};
-ghost use Rattle.files.specs.Progress.{freshProgress, stopped, refuse, opened, changeOf, endRefusal, endOf};
+ghost use Rattle.files.specs.Output.{noteRoom, spread, endRoom};
+ghost use Rattle.files.specs.Progress.{freshProgress, stopped, refuse, opened, endRefusal, endOf};
 ghost use Rattle.files.specs.Progress.{afterTick, wroteTick, afterRow, wroteRow, afterLine, wroteLine};
-ghost use Rattle.files.specs.device.Calls.{WroteWithin, LineNoted};
+ghost use Rattle.files.specs.device.Calls.{Notable, LineNoted};
 ghost use Rattle.text.specs.device.Calls.{Wrote};
-use crate::output::put_change;
+use crate::output::Form;
+use crate::output::note_row;
 use crate::output::put_end;
 use phase::Settings;
 use relay::RelayState;
 use relay::tick::RelayTicked;
+use rows::Row;
 use rows::RowRead;
 use rows::SettingsRead;
 use rows::read_row;
@@ -112,21 +113,10 @@ fn on_settings_line(p: Progress, line: &[u8]) -> Progress
     }
 }
 
-// The line of a tick whose output byte differs from the one before, and nothing for any other.
-fn note_change(out: &mut [u8], at: usize, row: u32, outputs: u8, before: u8) -> usize
-    requires { ⌜ (row ≤ lastRow) × (at + changeRoom ≤ length (now out)) ⌝ }
-    ensures { λ r. ⌜ WroteWithin changeRoom (now (out .entry)) (now (out .exit)) at r (changeOf row outputs before) ⌝ }
-{
-    if outputs == before {
-        return at;
-    }
-    put_change(out, at, row, outputs)
-}
-
 // The tick of an accepted row: the row is done where the tick is accepted; else the replay stops.
-fn on_tick(p: Progress, t: RelayTicked, out: &mut [u8], at: usize) -> Noted
-    requires { ⌜ (p .done < lastRow) × (at + changeRoom ≤ length (now out)) ⌝ }
-    ensures { λ r. ⌜ LineNoted changeRoom (now (out .entry)) (now (out .exit)) at (afterTick p t) (wroteTick p t) r ⌝ }
+fn on_tick(form: Form, p: Progress, x: Row, t: RelayTicked, out: &mut [u8], at: usize) -> Noted
+    requires { ⌜ Notable form (p .done) x at (length (now out)) ⌝ }
+    ensures { λ r. ⌜ LineNoted (noteRoom form) (now (out .entry)) (now (out .exit)) at (afterTick p t) (wroteTick form p x t) r ⌝ }
 {
     if t.refusal != 0 {
         let progress = stop(p, t.refusal);
@@ -135,8 +125,8 @@ fn on_tick(p: Progress, t: RelayTicked, out: &mut [u8], at: usize) -> Noted
             written: at,
         };
     }
+    let end = note_row(form, out, at, p.done, x, t.outputs, p.outputs);
     let done = p.done + 1;
-    let end = note_change(out, at, done, t.outputs, p.outputs);
     let settings = p.settings;
     let relay = t.state;
     let progress = Progress {
@@ -152,18 +142,18 @@ fn on_tick(p: Progress, t: RelayTicked, out: &mut [u8], at: usize) -> Noted
     }
 }
 
-// A row. What it writes is never longer than the row itself.
-fn on_row(p: Progress, line: &[u8], out: &mut [u8], at: usize) -> Noted
-    requires { ⌜ at + length (now line) ≤ length (now out) ⌝ }
+// A row. What it writes is at most so many times as long as the row itself.
+fn on_row(form: Form, p: Progress, line: &[u8], out: &mut [u8], at: usize) -> Noted
+    requires { ⌜ at + spread form * length (now line) ≤ length (now out) ⌝ }
     ensures { λ r.
         let l : List ℕ = now (line .entry) in
-        ⌜ LineNoted (length l) (now (out .entry)) (now (out .exit)) at (afterRow p l) (wroteRow p l) r ⌝ }
+        ⌜ LineNoted (spread form * length l) (now (out .entry)) (now (out .exit)) at (afterRow p l) (wroteRow form p l) r ⌝ }
 {
     let answer = read_row(line, p.done);
     match answer {
         RowRead::Accepted(x) => {
             let t = relay::tick::tick(p.settings, p.relay, x.l1, x.l2, x.l3, x.block);
-            on_tick(p, t, out, at)
+            on_tick(form, p, x, t, out, at)
         }
         RowRead::Refused(n) => {
             let progress = stop(p, n);
@@ -176,11 +166,11 @@ fn on_row(p: Progress, line: &[u8], out: &mut [u8], at: usize) -> Noted
 }
 
 // One line of the input, which writes at a place of the output.
-pub(crate) fn on_line(p: Progress, line: &[u8], out: &mut [u8], at: usize) -> Noted
-    requires { ⌜ at + length (now line) ≤ length (now out) ⌝ }
+pub(crate) fn on_line(form: Form, p: Progress, line: &[u8], out: &mut [u8], at: usize) -> Noted
+    requires { ⌜ at + spread form * length (now line) ≤ length (now out) ⌝ }
     ensures { λ r.
         let l : List ℕ = now (line .entry) in
-        ⌜ LineNoted (length l) (now (out .entry)) (now (out .exit)) at (afterLine p l) (wroteLine p l) r ⌝ }
+        ⌜ LineNoted (spread form * length l) (now (out .entry)) (now (out .exit)) at (afterLine p l) (wroteLine form p l) r ⌝ }
 {
     let stage = p.stage;
     match stage {
@@ -191,7 +181,7 @@ pub(crate) fn on_line(p: Progress, line: &[u8], out: &mut [u8], at: usize) -> No
                 written: at,
             }
         }
-        Stage::Running => on_row(p, line, out, at),
+        Stage::Running => on_row(form, p, line, out, at),
         Stage::Stopped(_) => Noted {
             progress: p,
             written: at,

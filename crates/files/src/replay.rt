@@ -1,14 +1,16 @@
 // The replay fed by portions of its input.
 ghost use mathlib.Core.Path.{_≡_};
 ghost use mathlib.Core.List.{List};
-ghost use Prim.Native.Nat.{ℕ, _+_, _≤_, _<_};
+ghost use Prim.Native.Nat.{ℕ, _+_, _*_, _/_, _≤_, _<_};
 ghost use lib.ListN.{length, take};
 ghost use lib.Seq.{sets};
 ghost use Rattle.files.specs.Replay.{lineLimit, freshReplay, portionRoom, takes, feedAnswer, feedWrites};
 ghost use Rattle.files.specs.Replay.{lastProgress, refusalAtEnd, finishWrites, isStopped};
+ghost use Rattle.files.specs.Output.{spread};
 ghost use Rattle.files.specs.Progress.{afterLine, wroteLine};
 ghost use Rattle.files.specs.device.Calls.{LineNoted, takenWith, PortionFed};
 use crate::output::END_ROOM;
+use crate::output::Form;
 use crate::progress::Noted;
 use crate::progress::Progress;
 use crate::progress::Stage;
@@ -23,11 +25,15 @@ use text::lines::Cut;
 // A row has at most so many bytes, and a settings line fewer.
 pub const LONGEST_LINE: usize = 45;
 
+// What a line writes is at most so many times as long as the line, where a row of the record is written.
+pub const RECORD_SPREAD: usize = 5;
+
 // A line of one byte more is too long.
 pub const LINE_LIMIT: usize = LONGEST_LINE + 1;
 
-// The progress of the replay, and the cutter that holds the line that has begun.
+// What its rows write, how far it has come, and the cutter that holds the line that has begun.
 pub struct Replay {
+    pub form: Form,
     pub progress: Progress,
     pub cutter: Cutter,
 }
@@ -40,19 +46,27 @@ pub struct Fed {
 }
 
 impl Replay {
-    pub fn fresh() -> Self
-        ensures { λ r. ⌜ r ≡ freshReplay ⌝ }
+    pub fn fresh(form: Form) -> Self
+        ensures { λ r. ⌜ r ≡ freshReplay form ⌝ }
     {
         let progress = Progress::fresh();
         let cutter = Cutter::empty();
-        Replay { progress, cutter }
+        Replay {
+            form,
+            progress,
+            cutter,
+        }
     }
 }
 
-fn taken(progress: Progress, cutter: Cutter, written: usize) -> Fed
-    ensures { λ r. ⌜ r ≡ takenWith progress cutter written ⌝ }
+fn taken(form: Form, progress: Progress, cutter: Cutter, written: usize) -> Fed
+    ensures { λ r. ⌜ r ≡ takenWith form progress cutter written ⌝ }
 {
-    let state = Replay { progress, cutter };
+    let state = Replay {
+        form,
+        progress,
+        cutter,
+    };
     Fed {
         taken: true,
         state,
@@ -61,20 +75,21 @@ fn taken(progress: Progress, cutter: Cutter, written: usize) -> Fed
 }
 
 // The line of the first n bytes held. (A part of an array that is a field can't be lent: the part is made here.)
-fn on_held(p: Progress, held: &[u8], n: usize, out: &mut [u8], at: usize) -> Noted
-    requires { ⌜ (n ≤ length (now held)) × (at + n ≤ length (now out)) ⌝ }
+fn on_held(form: Form, p: Progress, held: &[u8], n: usize, out: &mut [u8], at: usize) -> Noted
+    requires { ⌜ (n ≤ length (now held)) × (at + spread form * n ≤ length (now out)) ⌝ }
     ensures { λ r.
         let l : List ℕ = take n (now (held .entry)) in
-        ⌜ LineNoted n (now (out .entry)) (now (out .exit)) at (afterLine p l) (wroteLine p l) r ⌝ }
+        ⌜ LineNoted (spread form * n) (now (out .entry)) (now (out .exit)) at (afterLine p l) (wroteLine form p l) r ⌝ }
 {
-    on_line(p, &held[..n], out, at)
+    on_line(form, p, &held[..n], out, at)
 }
 
 // The bytes of a portion, line by line: what follows a line that is too long is not looked at.
 fn feed_bytes(state: Replay, portion: &[u8], out: &mut [u8]) -> Fed
-    requires { ⌜ (state .cutter .count < lineLimit) × (portionRoom (state .cutter .count) (length (now portion)) ≤ length (now out)) ⌝ }
+    requires { ⌜ (state .cutter .count < lineLimit) × (portionRoom (state .form) (state .cutter .count) (length (now portion)) ≤ length (now out)) ⌝ }
     ensures { λ r. ⌜ PortionFed state (now (portion .entry)) (now (out .entry)) (now (out .exit)) r ⌝ }
 {
+    let form = state.form;
     let mut progress = state.progress;
     let mut cutter = state.cutter;
     let mut i = 0;
@@ -86,11 +101,11 @@ fn feed_bytes(state: Replay, portion: &[u8], out: &mut [u8]) -> Fed
         let cut = piece.cut;
         match cut {
             Cut::Held => {
-                return taken(progress, cutter, at);
+                return taken(form, progress, cutter, at);
             }
             Cut::Closed => {
                 let n = cutter.count;
-                let t = on_held(progress, &cutter.held, n, out, at);
+                let t = on_held(form, progress, &cutter.held, n, out, at);
                 let after = t.progress;
                 progress = after;
                 at = t.written;
@@ -98,33 +113,35 @@ fn feed_bytes(state: Replay, portion: &[u8], out: &mut [u8]) -> Fed
                 continue;
             }
             Cut::TooLong => {
-                return taken(refuse_shape(progress), Cutter::empty(), at);
+                return taken(form, refuse_shape(progress), Cutter::empty(), at);
             }
         }
     }
-    taken(progress, cutter, at)
+    taken(form, progress, cutter, at)
 }
 
-// The room that a portion's output needs at most.
-fn portion_room(held: usize, portion: &[u8]) -> usize
-    requires { ⌜ held < lineLimit ⌝ }
-    ensures { λ r. ⌜ r ≡ portionRoom held (length (now (portion .entry))) ⌝ }
+// How many bytes of input an output of `room` bytes has room for.
+fn input_for(form: Form, room: usize) -> usize
+    ensures { λ r. ⌜ r ≡ room / spread form ⌝ }
 {
-    held + portion.len()
+    match form {
+        Form::Changes => room,
+        Form::Record => room / RECORD_SPREAD,
+    }
 }
 
 // Whether a state that holds `held` bytes takes a portion into an output of `room` bytes.
-fn takes_portion(held: usize, portion: &[u8], room: usize) -> bool
-    ensures { λ r. ⌜ r ≡ takes held (length (now (portion .entry))) room ⌝ }
+fn takes_portion(form: Form, held: usize, portion: &[u8], room: usize) -> bool
+    ensures { λ r. ⌜ r ≡ takes form held (length (now (portion .entry))) room ⌝ }
 {
     if LINE_LIMIT <= held {
         return false;
     }
-    portion_room(held, portion) <= room
+    held + portion.len() <= input_for(form, room)
 }
 
-// Feeds a portion of the input: what it writes stands at the front of `out`, and the other bytes of `out` stay. An `out`
-// of `portion_room` always suffices, so one with LONGEST_LINE bytes more than the portion.
+// Feeds a portion of the input: what it writes stands at the front of `out`, and the other bytes of `out` stay. An `out` with
+// LONGEST_LINE bytes more than the portion suffices for change lines, and RECORD_SPREAD times as much for the record.
 pub fn feed(state: Replay, portion: &[u8], out: &mut [u8]) -> Fed
     ensures answer { λ r. do
       room ← ⟦out.len()⟧ .entry
@@ -134,8 +151,9 @@ pub fn feed(state: Replay, portion: &[u8], out: &mut [u8]) -> Fed
       ⌜ now (out .exit) ≡ sets (now (out .entry)) 0 (feedWrites state (now (portion .entry)) room) ⌝ }
     ensures within { λ r. ⌜ r .written ≤ length (now (out .exit)) ⌝ }
 {
+    let form = state.form;
     let count = state.cutter.count;
-    if takes_portion(count, portion, out.len()) {
+    if takes_portion(form, count, portion, out.len()) {
         return feed_bytes(state, portion, out);
     }
     Fed {

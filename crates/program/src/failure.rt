@@ -12,15 +12,16 @@ use libc::EPERM;
 use libc::EPIPE;
 
 // No error is negative: the test is there for the cast's proof.
-fn say_error_number(error: i32) {
+fn say_error_number(error: i32) -> usize {
     say(b"error ");
     if 0 <= error {
-        say_number(error as u64);
+        return say_number(error as u64);
     }
+    0
 }
 
 // What a read or a write can fail with, in the C library's words; any other error by its number.
-fn say_error(error: i32) {
+fn say_error(error: i32) -> usize {
     match error {
         EPERM => say(b"Operation not permitted"),
         EIO => say(b"Input/output error"),

@@ -3,7 +3,6 @@
 mod failure;
 mod input;
 mod output;
-pub mod words;
 
 pub use input::Portion;
 pub use input::read_portion;

@@ -1,6 +1,8 @@
-// Bytes to standard output and standard error.
-ghost use Prim.Native.Nat.{_+_, _≤_};
+// Bytes to standard output and standard error. No contract can say what reaches a file: these say how many bytes were taken.
+ghost use Prim.Native.Nat.{ℕ, _+_, _≤_};
 ghost use lib.ListN.{length};
+ghost use Rattle.io.specs.Counts.{Counts};
+ghost use Rattle.io.specs.Digits.{digits, Fewest};
 use crate::failure::say_failure;
 use libc::EINTR;
 use libc::STDERR_FILENO;
@@ -15,44 +17,53 @@ fn write_from(fd: i32, bytes: &[u8], from: usize) -> usize
     io::count(libc::write(fd, rest), rest)
 }
 
-// Writes all of the bytes; false where a write failed.
-fn write_all(fd: i32, bytes: &[u8]) -> bool {
+// Writes the bytes and answers how many were taken: fewer than all where a write failed.
+fn write_all(fd: i32, bytes: &[u8]) -> usize
+    ensures { λ r. ⌜ Counts r (now (bytes .entry)) ⌝ }
+{
     // A function must be seen to end. No output takes so many calls.
     let mut tries = u64::MAX;
     let mut done = 0;
     while done < bytes.len() {
         if tries == 0 {
-            return false;
+            return done;
         }
         tries -= 1;
         let put = write_from(fd, bytes, done);
         if put == 0 {
             if os::errno() != EINTR {
-                return false;
+                return done;
             }
         }
         done += put;
     }
-    true
+    done
 }
 
-// Writes to standard output; a write that fails is told on standard error, and answered by false.
-pub fn write_out(bytes: &[u8]) -> bool {
-    if write_all(STDOUT_FILENO, bytes) {
-        return true;
+// Writes to standard output and answers how many bytes were taken: fewer than all where a write failed, which is told on
+// standard error.
+pub fn write_out(bytes: &[u8]) -> usize
+    ensures { λ r. ⌜ Counts r (now (bytes .entry)) ⌝ }
+{
+    let put = write_all(STDOUT_FILENO, bytes);
+    if put < bytes.len() {
+        say_failure(b"writing standard output");
     }
-    say_failure(b"writing standard output");
-    false
+    put
 }
 
-// Words for a person, on standard error.
-pub fn say(words: &[u8]) {
-    write_all(STDERR_FILENO, words);
+// Words for a person, on standard error; answers how many bytes were taken.
+pub fn say(words: &[u8]) -> usize
+    ensures { λ r. ⌜ Counts r (now (words .entry)) ⌝ }
+{
+    write_all(STDERR_FILENO, words)
 }
 
-// A number for a person, on standard error.
-pub fn say_number(n: u64) {
+// A number for a person, on standard error: the fewest decimal digits that hold it. Answers how many of them were taken.
+pub fn say_number(n: u64) -> usize
+    ensures { λ r. ⌜ ((k : ℕ) × (Fewest 10 1 n k) × (Counts r (digits 10 k n))) ⌝ }
+{
     let mut text = [0u8; 20];
     let count = io::decimal(n, &mut text);
-    say(&text[..count]);
+    say(&text[..count])
 }

@@ -18,7 +18,7 @@ use Rattle.records.specs.RecordRow.{rowFits, timestamp, recordNumbers, r
 use Rattle.records.specs.Writer.{writeRefusal, freeFrom, writtenAt, WriteAnswer, writeAnswer}
 use Rattle.records.specs.Reader.{recordWidths, recordRefusal, recordAnswer}
 use Rattle.records.proofs.StatusLaws.{status-bits, status-back}
-use Rattle.records.proofs.WriterLaws.{fits, accepted-fits, accepted-place, write-accepted, write-number}
+use Rattle.records.proofs.WriterLaws.{Fits, fits, fits-row, refused-not, accepted-fits, accepted-place, write-accepted, write-number}
 
 module _ (x : RecordRow) (fit : rowFits x ≡ true) where
   bit : (value : ℕ) (ws : List ℕ) (fs : List (List ℕ)) → fitsIn ws fs ≡ true → fitsIn (1 ∷ ws) (decimals (x .outputs / value % 2 ∷ []) ++ fs) ≡ true
@@ -56,6 +56,11 @@ module _ (x : RecordRow) (fit : rowFits x ≡ true) where
   text-back byte =
       let next : x .number ≡ x .number - 1 + 1 = omega (arith, fits x fit .some) in
       rw (record-right, numbers-back, eq-eqb (x .number) (x .number - 1 + 1) next, status-bits (x .outputs), status-back (x .outputs) byte)
+
+-- a row that fits is accepted where the longest has room
+pub write-fits : (out : List ℕ) (at : ℕ) (x : RecordRow) → Fits x → at + longestRecord ≤ length out → writeAnswer out at x ≡ writtenAt out at (recordText x)
+write-fits out at x f h =
+    write-accepted out at x (refused-not x (freeFrom out at) (fits-row x f) (omega (arith, record-most x (fits-row x f))))
 
 -- ---- the bytes written
 

@@ -12,14 +12,14 @@ use lib.Seq.{sets}
 use borrow.Author.Tests.{eq-eqb, ne-eqb, le-leb, lt-leb, leb-true, eqb-true}
 use Rattle.checks.specs.Range.{inRange}
 use Rattle.checks.proofs.Cases.{by-cond, not-both}
-use Rattle.checks.proofs.Tests.{both-true, in-range}
-use Rattle.rows.specs.Row.{lastRow}
+use Rattle.checks.proofs.Tests.{both-true, in-range, is-in-range}
+use Rattle.rows.specs.Row.{lastRow, largestCurrent}
 use Rattle.text.specs.Lines.{joined}
 use Rattle.text.proofs.StoreLaws.{sets-append}
 use Rattle.text.proofs.CutLaws.{joined-none, joined-more}
 use Rattle.records.specs.declared.record_row.RecordRow.{RecordRow}
 use Rattle.records.specs.Refusals.{noRoom, doesNotFit}
-use Rattle.records.specs.RecordRow.{largestCurrent, rowFits, recordText}
+use Rattle.records.specs.RecordRow.{rowFits, recordText}
 use Rattle.records.specs.Writer.{writeRefusal, freeFrom, WriteAnswer, writtenAt, refusedAt, writeAnswer}
 
 -- ---- numbers that fit
@@ -46,6 +46,15 @@ fits x e =
       second = leb-true (x .l2) largestCurrent second;
       third = leb-true (x .l3) largestCurrent third;
     }
+
+pub fits-row : (x : RecordRow) → Fits x → rowFits x ≡ true
+fits-row x f =
+    rw (
+      is-in-range 1 lastRow (x .number) (f .some) (f .most),
+      le-leb (x .l1) largestCurrent (f .first),
+      le-leb (x .l2) largestCurrent (f .second),
+      le-leb (x .l3) largestCurrent (f .third),
+    )
 
 -- a row has some bytes
 pub text-some : (x : RecordRow) → 1 ≤ length (recordText x)

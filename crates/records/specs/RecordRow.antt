@@ -4,14 +4,10 @@ use mathlib.Core.List.{List, [], _∷_}
 use Prim.Native.Nat.{ℕ, _-_, _*_}
 use lib.Dec.{leb}
 use Rattle.checks.specs.Range.{inRange}
-use Rattle.rows.specs.Row.{lastRow}
+use Rattle.rows.specs.Row.{lastRow, largestCurrent}
 use Rattle.text.specs.Decimals.{lineOf}
 use Rattle.records.specs.declared.record_row.RecordRow.{RecordRow}
 use Rattle.records.specs.Status.{statusOf}
-
--- the largest number of seven digits
-abbrev pub largestCurrent : ℕ
-largestCurrent = 9999999
 
 -- not: "row number 0 or over 999,999, or a current over 9,999,999"
 abbrev pub rowFits : RecordRow → Bool

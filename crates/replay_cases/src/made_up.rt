@@ -1,12 +1,13 @@
 // A state that no replay reaches: rows are due, and no settings were accepted.
 use crate::line::say;
 use files::END_ROOM;
+use files::Form;
 use files::Progress;
 use files::Replay;
 use files::Stage;
 
 fn without_settings() -> Replay {
-    let fresh = Replay::fresh();
+    let fresh = Replay::fresh(Form::Changes);
     let p = fresh.progress;
     let settings = p.settings;
     let relay = p.relay;
@@ -18,7 +19,11 @@ fn without_settings() -> Replay {
         outputs: p.outputs,
     };
     let cutter = fresh.cutter;
-    Replay { progress, cutter }
+    Replay {
+        form: Form::Changes,
+        progress,
+        cutter,
+    }
 }
 
 // The row's tick is refused, by the first setting out of range: the row is not done, and the replay stops.

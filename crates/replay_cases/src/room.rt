@@ -2,6 +2,7 @@
 use crate::line::say;
 use crate::line::say_count;
 use files::END_ROOM;
+use files::Form;
 use files::LONGEST_LINE;
 use files::Replay;
 
@@ -16,7 +17,7 @@ fn say_taken(taken: bool) {
 // Feeds five bytes to a state that holds `held` bytes.
 fn feed(name: &[u8], held: usize, out: &mut [u8]) {
     say(name);
-    let mut state = Replay::fresh();
+    let mut state = Replay::fresh(Form::Changes);
     state.cutter.count = held;
     let t = files::feed(state, b"1,200", out);
     say_taken(t.taken);
@@ -24,7 +25,7 @@ fn feed(name: &[u8], held: usize, out: &mut [u8]) {
 
 fn end(name: &[u8], out: &mut [u8]) {
     say(name);
-    say_count(files::finish(Replay::fresh(), out));
+    say_count(files::finish(Replay::fresh(Form::Changes), out));
     say(b" bytes written\n");
 }
 

@@ -12,17 +12,17 @@ use Rattle.text.specs.declared.line.Line.{Line}
 use Rattle.rows.specs.declared.row.Row.{Row}
 use Rattle.rows.specs.declared.row.RowRead.{RowRead}
 use Rattle.rows.specs.declared.row.RowRead.the-variants.{Accepted, Refused}
-use Rattle.text.specs.Number.{decimal}
-use Rattle.text.specs.Line.{rightShape, numbersOf, lineAnswer, fitsIn, written}
+use Rattle.text.specs.Line.{rightShape, numbersOf, lineAnswer, fitsIn}
+use Rattle.text.specs.Decimals.{decimals, lineOf}
 use Rattle.text.specs.device.Calls.{Readable}
 use Rattle.relay.specs.Refusals.{wrongBlock}
 use Rattle.rows.specs.Refusals.{wrongShape, wrongNumber}
-use Rattle.rows.specs.Row.{lastRow, rowWidths, rowOf, rowRefusal, rowAnswer, rowNumber}
+use Rattle.rows.specs.Row.{lastRow, largestCurrent, rowWidths, rowOf, rowRefusal, rowAnswer, rowNumber}
 use Rattle.checks.specs.Checks.{check}
 use Rattle.checks.proofs.PassedLaws.{all-passed}
 use Rattle.rows.proofs.AnswerNumbers.{answer-number}
-use Rattle.text.proofs.DecimalLaws.{decimal-back}
-use Rattle.text.proofs.ShapeLaws.{shape-least, number-below, fits-none, fits-decimal, written-right, written-numbers}
+use Rattle.text.proofs.ShapeLaws.{shape-least, number-below, fits-none, fits-decimal}
+use Rattle.text.proofs.DecimalsLaws.{line-shaped, line-numbers}
 use Rattle.text.proofs.LineLaws.{line-shape, line-number}
 
 pub row-readable : Readable rowWidths
@@ -91,10 +91,13 @@ row-misshapen s last h = sym (row-refused s last wrongShape (rw h) (λ k. omega 
 abbrev pub shortestRow : ℕ
 shortestRow = 13
 
--- it has at least so many bytes; its number is one of six digits, and its block is 0 or 1
+-- it has at least so many bytes; its number is one of six digits, its currents of seven, and its block is 0 or 1
 pub record AcceptedRow (s : List ℕ) (last : ℕ) (x : Row) : Type 0 where
   pub long : shortestRow ≤ length s
   pub number : last + 1 ≤ lastRow
+  pub first : x .l1 ≤ largestCurrent
+  pub second : x .l2 ≤ largestCurrent
+  pub third : x .l3 ≤ largestCurrent
   pub block : x .block ≤ 1
 
 pub accepted-row : (s : List ℕ) (last : ℕ) (x : Row) → rowAnswer s last ≡ Accepted x → AcceptedRow s last x
@@ -106,9 +109,13 @@ accepted-row s last x e =
     let none : rowRefusal s last ≡ 0 = sym (row-told (Accepted x) s last (sym e) .1) in
     let (shape, (next, (free, end))) = all-passed checks 0 refl none .0 in
     let same : rowOf (numbersOf s) ≡ x = cc in
+    let below = number-below rowWidths s (omega arith) shape in
     record {
       long = omega (arith, shape-least rowWidths s (omega arith) shape);
-      number = omega (arith, eqb-true n (last + 1) next, number-below rowWidths s (omega arith) shape 0);
+      number = omega (arith, eqb-true n (last + 1) next, below 0);
+      first = rw (← same) (omega (arith, below 2));
+      second = rw (← same) (omega (arith, below 3));
+      third = rw (← same) (omega (arith, below 4));
       block = rw (← same) (leb-true block 1 free);
     }
 
@@ -118,11 +125,11 @@ no-row-after-last s x e = let k = accepted-row s lastRow x e .number in omega ar
 
 -- ---- a row that is written in decimals is read back
 
-module _ (last stamp a b c block : ℕ) (n : last + 1 ≤ lastRow) (t : stamp ≤ 9999999999) (ka : a ≤ 9999999) (kb : b ≤ 9999999) (kc : c ≤ 9999999) (kd : block ≤ 1) where
-  abbrev fields : List (List ℕ)
-  fields = decimal (last + 1) ∷ decimal stamp ∷ decimal a ∷ decimal b ∷ decimal c ∷ decimal block ∷ []
+module _ (last stamp a b c block : ℕ) (n : last + 1 ≤ lastRow) (t : stamp ≤ 9999999999) (ka : a ≤ largestCurrent) (kb : b ≤ largestCurrent) (kc : c ≤ largestCurrent) (kd : block ≤ 1) where
+  abbrev numbers : List ℕ
+  numbers = (last + 1) ∷ stamp ∷ a ∷ b ∷ c ∷ block ∷ []
 
-  fields-fit : fitsIn rowWidths fields ≡ true
+  fields-fit : fitsIn rowWidths (decimals numbers) ≡ true
   fields-fit =
       fits-decimal 5 (last + 1) _ _ (omega arith) (omega arith)
       (fits-decimal 9 stamp _ _ (omega arith) (omega arith)
@@ -131,18 +138,12 @@ module _ (last stamp a b c block : ℕ) (n : last + 1 ≤ lastRow) (t : stamp �
       (fits-decimal 6 c _ _ (omega arith) (omega arith)
       (fits-decimal 0 block _ _ (omega arith) (omega arith) fits-none)))))
 
-  fields-numbers : numbersOf (written fields) ≡ (last + 1) ∷ stamp ∷ a ∷ b ∷ c ∷ block ∷ []
-  fields-numbers =
-      written-numbers 6 _ fields fields-fit
-      ∙ rw (
-        decimal-back (last + 1) (omega arith),
-        decimal-back stamp (omega arith),
-        decimal-back a (omega arith),
-        decimal-back b (omega arith),
-        decimal-back c (omega arith),
-        decimal-back block (omega arith),
-      )
-
-  pub row-back : rowAnswer (written fields) last ≡ Accepted (record { number = last + 1; l1 = a; l2 = b; l3 = c; block = block })
+  pub row-back : rowAnswer (lineOf numbers) last ≡ Accepted (record { number = last + 1; l1 = a; l2 = b; l3 = c; block = block })
   unfolding rowAnswer rowRefusal
-  row-back = rw (written-right 6 _ fields fields-fit, fields-numbers, eq-eqb (last + 1) (last + 1) refl, le-leb block 1 kd)
+  row-back =
+      rw (
+        line-shaped rowWidths numbers (omega arith) fields-fit,
+        line-numbers rowWidths numbers (omega arith) fields-fit,
+        eq-eqb (last + 1) (last + 1) refl,
+        le-leb block 1 kd,
+      )

@@ -19,6 +19,10 @@ rowWidths = 6 ∷ 10 ∷ 7 ∷ 7 ∷ 7 ∷ 1 ∷ []
 abbrev pub lastRow : ℕ
 lastRow = 999999
 
+-- the largest number of seven digits
+abbrev pub largestCurrent : ℕ
+largestCurrent = 9999999
+
 -- "The timestamp is read and ignored."
 abbrev pub rowOf : List ℕ → Row
 rowOf ns = record { number = getD ns 0 0; l1 = getD ns 2 0; l2 = getD ns 3 0; l3 = getD ns 4 0; block = getD ns 5 0 }

@@ -3,21 +3,33 @@
 use mathlib.Core.Path.{_≡_}
 use mathlib.Core.Bool.{true}
 use mathlib.Core.List.{List}
-use Prim.Native.Nat.{ℕ, _+_, _≤_}
+use Prim.Native.Nat.{ℕ, _+_, _≤_, _<_}
 use lib.ListN.{length}
 use lib.Seq.{sets}
 use Rattle.text.specs.declared.lines.Closer.the-variants.{CrLf}
 use Rattle.text.specs.declared.cutter.Cutter.{Cutter}
 use Rattle.text.specs.device.Calls.{Wrote, Holds}
+use Rattle.rows.specs.declared.row.Row.{Row}
+use Rattle.rows.specs.Row.{lastRow, largestCurrent}
+use Rattle.files.specs.declared.output.Form.{Form}
 use Rattle.files.specs.declared.progress.Progress.{Progress}
 use Rattle.files.specs.declared.progress.Noted.{Noted}
 use Rattle.files.specs.declared.replay.Replay.{Replay}
 use Rattle.files.specs.declared.replay.Fed.{Fed}
+use Rattle.files.specs.Output.{noteRoom}
 use Rattle.files.specs.Replay.{lineLimit, writes, portionRoom, fedBy}
 
 -- the progress after a line, and the place after what it wrote
 abbrev pub notedOf : Progress → List ℕ → ℕ → Noted
 notedOf p w at = record { progress = p; written = at + length w }
+
+-- the row after `done` rows can be noted: its numbers have as many digits as they may, and the output has room
+pub record Notable (form : Form) (done : ℕ) (x : Row) (at room : ℕ) : Type 0 where
+  pub number : done < lastRow
+  pub first : x .l1 ≤ largestCurrent
+  pub second : x .l2 ≤ largestCurrent
+  pub third : x .l3 ≤ largestCurrent
+  pub free : at + noteRoom form ≤ room
 
 -- these bytes were written at a place, at most `room` of them
 pub record WroteWithin (room : ℕ) (before after : List ℕ) (at place : ℕ) (bytes : List ℕ) : Type 0 where
@@ -32,14 +44,14 @@ pub record LineNoted (room : ℕ) (before after : List ℕ) (at : ℕ) (p : Prog
   pub short : answer .written ≤ at + room
 
 -- a portion that was taken
-abbrev pub takenWith : Progress → Cutter → ℕ → Fed
-takenWith p c written = record { taken = true; state = record { progress = p; cutter = c }; written = written }
+abbrev pub takenWith : Form → Progress → Cutter → ℕ → Fed
+takenWith form p c written = record { taken = true; state = record { form = form; progress = p; cutter = c }; written = written }
 
 -- a portion was fed, and what it wrote stands at the front
 pub record PortionFed (r : Replay) (portion before after : List ℕ) (x : Fed) : Type 0 where
   pub answer : x ≡ fedBy r portion
   pub output : after ≡ sets before 0 (writes r portion)
-  pub within : x .written ≤ portionRoom (r .cutter .count) (length portion)
+  pub within : x .written ≤ portionRoom (r .form) (r .cutter .count) (length portion)
 
 -- the line held is shorter than a line too long, and is not closed
 abbrev pub Sound : Replay → Type 0

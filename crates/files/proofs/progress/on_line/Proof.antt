@@ -26,8 +26,8 @@ returns c =
     let a = c .before .before .before .before .before .args in
     let e = c .before .enum-told .given .1 in
     record {
-      noted = opening-noted (a .p) (a .line .now) (a .at) (c .on-settings-line .result) e (c .on-settings-line .ensures);
-      output = opening-quiet (a .p) (a .line .now) (a .at) (a .out .now) e;
+      noted = opening-noted (a .form) (a .p) (a .line .now) (a .at) (c .on-settings-line .result) e (c .on-settings-line .ensures);
+      output = opening-quiet (a .form) (a .p) (a .line .now) (a .at) (a .out .now) e;
       short = omega arith;
     }
 
@@ -40,8 +40,8 @@ returns-2 c =
     let e = c .before .before .before .before .enum-told2 .given .1 in
     let f = c .before .before .on-row .ensures in
     record {
-      noted = running-noted (a .p) (a .line .now) (a .at) e _ (f .noted);
-      output = running-output (a .p) (a .line .now) (a .at) e (a .out .now) (c .before .before .on-row .last .1 .1 .0) (f .output);
+      noted = running-noted (a .form) (a .p) (a .line .now) (a .at) e _ (f .noted);
+      output = running-output (a .form) (a .p) (a .line .now) (a .at) e (a .out .now) (c .before .before .on-row .last .1 .1 .1 .0) (f .output);
       short = f .short;
     }
 
@@ -50,8 +50,8 @@ returns-3 c =
     let a = c .before .before .before .before .args in
     let e = c .enum-told3 .given .1 in
     record {
-      noted = stopped-noted (a .p) (a .line .now) (a .at) _ e;
-      output = stopped-quiet (a .p) (a .line .now) (a .at) (a .out .now) _ e;
+      noted = stopped-noted (a .form) (a .p) (a .line .now) (a .at) _ e;
+      output = stopped-quiet (a .form) (a .p) (a .line .now) (a .at) (a .out .now) _ e;
       short = omega arith;
     }
 

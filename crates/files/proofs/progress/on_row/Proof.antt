@@ -2,8 +2,10 @@
 -- Assumes nothing.
 use mathlib.Core.Path.{sym, _∙_}
 use native.Mathlib.Omega.{arith}
+use lib.ListN.{length}
 use Rattle.rows.specs.Row.{rowAnswer}
 use Rattle.rows.proofs.RowLaws.{accepted-row}
+use Rattle.files.proofs.OutputLaws.{row-room, row-short}
 use Rattle.files.proofs.ProgressLaws.{accepted-output, accepted-noted, refused-noted, refused-quiet}
 use borrow.Author.Needs.{needs}
 use Rattle.files.proofs.progress.on_row.Statement.{statement}
@@ -25,7 +27,13 @@ on-tick-requires c κs =
     let (answer, number) = c .before .before .before .before .before .read-row .ensures in
     let q = sym answer ∙ c .before .before .before .answer .given .1 in
     let k = accepted-row (a .line .now) (a .p .done) x q in
-    (omega arith, omega (arith, c .before .before .before .before .before .before .before .before .pre))
+    record {
+      number = omega (arith, k .number);
+      first = k .first;
+      second = k .second;
+      third = k .third;
+      free = row-room (a .form) (a .at) (length (a .line .now)) (length (a .out .now)) (k .long) (c .before .before .before .before .before .before .before .before .pre);
+    }
 
 enum-known-answer-2 : tie.Need-enum-known-answer-2
 enum-known-answer-2 c = search needs
@@ -47,10 +55,10 @@ returns c =
     let f = c .before .before .on-tick .ensures in
     let k = accepted-row (a .line .now) (a .p .done) x q in
     record {
-      noted = accepted-noted (a .p) r x (t .result) q (t .ensures) _ (a .at) (f .noted);
+      noted = accepted-noted (a .form) (a .p) r x (t .result) q (t .ensures) _ (a .at) (f .noted);
       output =
-          accepted-output (a .p) r x (t .result) q (t .ensures) (a .out .now) (c .before .before .on-tick .last .1 .1 .0) (a .at) (f .output);
-      short = omega (arith, f .short);
+          accepted-output (a .form) (a .p) r x (t .result) q (t .ensures) (a .out .now) (c .before .before .on-tick .last .1 .1 .1 .1 .0) (a .at) (f .output);
+      short = row-short (a .form) _ (a .at) (length (a .line .now)) (k .long) (f .short);
     }
 
 returns-2 : tie.Need-returns-2
@@ -61,8 +69,8 @@ returns-2 c =
     let (answer, number) = c .before .before .before .before .read-row .ensures in
     let q = sym answer ∙ c .before .before .answer2 .given .1 in
     record {
-      noted = refused-noted (a .p) r n q (c .stop .result) (a .at) (c .stop .ensures);
-      output = refused-quiet (a .p) r n q (a .out .now) (a .at);
+      noted = refused-noted (a .form) (a .p) r n q (c .stop .result) (a .at) (c .stop .ensures);
+      output = refused-quiet (a .form) (a .p) r n q (a .out .now) (a .at);
       short = omega arith;
     }
 

@@ -14,16 +14,16 @@ returns c =
     let a = c .before .before .before .before .args in
     let e = c .before .if1 .taken in
     record {
-      noted = refused-tick-noted (a .p) (a .t) e (c .stop .result) (a .at) (c .stop .ensures);
-      output = refused-tick-quiet (a .p) (a .t) e (a .out .now) (a .at);
+      noted = refused-tick-noted (a .form) (a .p) (a .x) (a .t) e (c .stop .result) (a .at) (c .stop .ensures);
+      output = refused-tick-quiet (a .form) (a .p) (a .x) (a .t) e (a .out .now) (a .at);
       short = omega arith;
     }
 
-add-done : tie.Need-add-done
-add-done c = search needs
+note-row-requires : tie.Need-note-row-requires
+note-row-requires c κs = search needs
 
-note-change-requires : tie.Need-note-change-requires
-note-change-requires c κs = search needs
+add-done : tie.Need-add-done
+add-done c = omega (arith, c .before .before .before .before .before .before .before .before .pre .number)
 
 same-length : tie.Need-same-length
 same-length c = search needs
@@ -32,13 +32,13 @@ returns-2 : tie.Need-returns-2
 returns-2 c =
     let a = c .before .before .before .before .before .before .before .before .before .before .args in
     let e = c .before .before .before .before .before .before .before .if1 .left in
-    let n = c .before .before .before .before .note-change in
+    let n = c .before .before .before .before .before .note-row in
     record {
-      noted = tick-noted (a .p) (a .t) e (n .result) (a .at) (n .ensures .wrote .place-after);
-      output = tick-output (a .p) (a .t) e (a .out .now) (n .last .0) (a .at) (n .ensures .wrote .output);
+      noted = tick-noted (a .form) (a .p) (a .x) (a .t) e (n .result) (a .at) (n .ensures .wrote .place-after);
+      output = tick-output (a .form) (a .p) (a .x) (a .t) e (a .out .now) (n .last .1 .0) (a .at) (n .ensures .wrote .output);
       short = n .ensures .short;
     }
 
 pub on-tick-spec : {M : Type 1} → statement M
 on-tick-spec =
-    tie.close (tie.spec stop-requires returns add-done note-change-requires same-length returns-2)
+    tie.close (tie.spec stop-requires returns note-row-requires add-done same-length returns-2)

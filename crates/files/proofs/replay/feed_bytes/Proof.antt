@@ -10,11 +10,11 @@ use Rattle.files.proofs.replay.feed_bytes.Statement.{statement}
 use Rattle.files.proofs.replay.feed_bytes.Tie as tie
 
 abbrev Inv-loop : tie.InvT-loop
-Inv-loop portion out₀ progress₀ cutter₀ i₀ at₀ out progress cutter i at =
-    FeedTurn (record { progress = progress₀; cutter = cutter₀ }) portion out₀ i (record { progress = progress; cutter = cutter }) at out
+Inv-loop portion out₀ form progress₀ cutter₀ i₀ at₀ out progress cutter i at =
+    FeedTurn (record { form = form; progress = progress₀; cutter = cutter₀ }) portion out₀ i (record { form = form; progress = progress; cutter = cutter }) at out
 
 abbrev μ-loop : tie.MeasureT-loop
-μ-loop portion out₀ progress₀ cutter₀ i₀ at₀ out progress cutter i at = length portion - i
+μ-loop portion out₀ form progress₀ cutter₀ i₀ at₀ out progress cutter i at = length portion - i
 
 loop-holds : tie.Need-loop-holds Inv-loop μ-loop
 loop-holds c =
@@ -39,7 +39,7 @@ returns c =
     let l = c .before .before .before .before .before .before .loop in
     let more = c .before .before .before .before .before .loop-test .taken in
     let k = c .before .before .before .before .cut in
-    let s : Replay = record { progress = l .progress; cutter = l .cutter } in
+    let s : Replay = record { form = a .state .form; progress = l .progress; cutter = l .cutter } in
     turn-held (a .state) (a .portion .now) (a .out .now) (l .i) s (l .at) (l .out) (l .inv) more (k .result) (k .ensures) (c .before .enum-told .given .1) (c .taken .result) (c .taken .ensures)
 
 enum-told-2 : tie.Need-enum-told-2 Inv-loop μ-loop
@@ -51,7 +51,7 @@ on-held-requires c κs =
     let l = c .before .before .before .before .before .before .before .before .before .loop in
     let more = c .before .before .before .before .before .before .before .before .loop-test .taken in
     let k = c .before .before .before .before .before .before .before .cut in
-    let s : Replay = record { progress = l .progress; cutter = l .cutter } in
+    let s : Replay = record { form = a .state .form; progress = l .progress; cutter = l .cutter } in
     let piece = taken (a .state) (a .portion .now) (a .out .now) (l .i) s (l .at) (l .out) (l .inv) more (k .result) (k .ensures) in
     let room = line-room (a .state) (a .portion .now) (a .out .now) (l .i) s (l .at) (l .out) (l .inv) more (k .result) (k .ensures) in
     (omega (arith, piece .fits, piece .room), omega (arith, room, c .before .before .before .before .before .before .before .before .before .before .before .before .before .before .pre .1, l .inv .long))
@@ -65,7 +65,7 @@ loop-less c =
     let l = c .before .before .before .before .before .before .before .before .before .before .before .before .before .before .loop in
     let more = c .before .before .before .before .before .before .before .before .before .before .before .before .before .loop-test .taken in
     let k = c .before .before .before .before .before .before .before .before .before .before .before .before .cut in
-    let s : Replay = record { progress = l .progress; cutter = l .cutter } in
+    let s : Replay = record { form = a .state .form; progress = l .progress; cutter = l .cutter } in
     omega (arith, more, taken (a .state) (a .portion .now) (a .out .now) (l .i) s (l .at) (l .out) (l .inv) more (k .result) (k .ensures) .farther more)
 
 loop-again : tie.Need-loop-again Inv-loop μ-loop
@@ -74,9 +74,9 @@ loop-again c =
     let l = c .before .before .before .before .before .before .before .before .before .before .before .before .before .before .loop in
     let more = c .before .before .before .before .before .before .before .before .before .before .before .before .before .loop-test .taken in
     let k = c .before .before .before .before .before .before .before .before .before .before .before .before .cut in
-    let s : Replay = record { progress = l .progress; cutter = l .cutter } in
+    let s : Replay = record { form = a .state .form; progress = l .progress; cutter = l .cutter } in
     let t = c .before .before .before .before .on-held in
-    rw (c .empty .ensures) (turn-closed (a .state) (a .portion .now) (a .out .now) (l .i) s (l .at) (l .out) (l .inv) more (k .result) (k .ensures) (c .before .before .before .before .before .before .before .before .before .enum-told2 .given .1) (t .result) (t .last .1 .1 .1 .0) (t .ensures))
+    rw (c .empty .ensures) (turn-closed (a .state) (a .portion .now) (a .out .now) (l .i) s (l .at) (l .out) (l .inv) more (k .result) (k .ensures) (c .before .before .before .before .before .before .before .before .before .enum-told2 .given .1) (t .result) (t .last .1 .1 .1 .1 .0) (t .ensures))
 
 enum-told-3 : tie.Need-enum-told-3 Inv-loop μ-loop
 enum-told-3 c = search needs
@@ -99,7 +99,7 @@ returns-2 c =
     let l = c .before .before .before .before .before .before .before .before .loop in
     let more = c .before .before .before .before .before .before .before .loop-test .taken in
     let k = c .before .before .before .before .before .before .cut in
-    let s : Replay = record { progress = l .progress; cutter = l .cutter } in
+    let s : Replay = record { form = a .state .form; progress = l .progress; cutter = l .cutter } in
     let answer = rw (c .before .empty2 .ensures, c .before .before .refuse-shape .ensures) at (c .taken2 .ensures) in
     turn-long (a .state) (a .portion .now) (a .out .now) (l .i) s (l .at) (l .out) (l .inv) more (k .result) (k .ensures) (c .before .before .before .enum-told3 .given .1) (c .taken2 .result) answer
 
@@ -113,7 +113,7 @@ returns-3 : tie.Need-returns-3 Inv-loop μ-loop
 returns-3 c =
     let a = c .before .before .before .before .before .before .before .args in
     let l = c .before .before .loop in
-    let s : Replay = record { progress = l .progress; cutter = l .cutter } in
+    let s : Replay = record { form = a .state .form; progress = l .progress; cutter = l .cutter } in
     turn-last (a .state) (a .portion .now) (a .out .now) (l .i) s (l .at) (l .out) (l .inv) (omega arith) (c .taken3 .result) (c .taken3 .ensures)
 
 pub feed-bytes-spec : {M : Type 1} → statement M

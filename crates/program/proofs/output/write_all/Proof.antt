@@ -1,13 +1,14 @@
--- `program::output::write_all` is safe and ends: what is done is never more than there is.
+-- `program::output::write_all` meets its contract: what is done is never more than there is.
 -- Assumes nothing.
-use Prim.Native.Nat.{_≤_}
-use lib.ListN.{length}
+use native.Mathlib.Omega.{arith}
+use lib.ListN.{length-take}
 use borrow.Author.Needs.{needs}
+use Rattle.io.specs.Counts.{Counts}
 use Rattle.program.proofs.output.write_all.Statement.{statement}
 use Rattle.program.proofs.output.write_all.Tie as tie
 
 abbrev Inv-loop : tie.InvT-loop
-Inv-loop fd bytes tries₀ done₀ tries done = done ≤ length bytes
+Inv-loop fd bytes tries₀ done₀ tries done = Counts done bytes
 
 abbrev μ-loop : tie.MeasureT-loop
 μ-loop fd bytes tries₀ done₀ tries done = tries
@@ -37,7 +38,7 @@ loop-less : tie.Need-loop-less Inv-loop μ-loop
 loop-less c = search needs
 
 loop-again : tie.Need-loop-again Inv-loop μ-loop
-loop-again c = search needs
+loop-again c = (omega arith, simp length-take (omega arith))
 
 returns-3 : tie.Need-returns-3 Inv-loop μ-loop
 returns-3 c = search needs

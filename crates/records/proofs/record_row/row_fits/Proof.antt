@@ -3,8 +3,7 @@
 use native.Mathlib.Omega.{arith}
 use borrow.Author.Tests.{le-leb, lt-leb}
 use Rattle.checks.proofs.Tests.{is-in-range, below-range, above-range}
-use Rattle.rows.specs.Row.{lastRow}
-use Rattle.records.specs.RecordRow.{largestCurrent}
+use Rattle.rows.specs.Row.{lastRow, largestCurrent}
 use Rattle.records.proofs.record_row.row_fits.Statement.{statement}
 use Rattle.records.proofs.record_row.row_fits.Tie as tie
 

@@ -1,8 +1,10 @@
-// Why a recording was refused, in one line on standard error.
+// Why a recording was refused, in words on standard error.
+ghost use mathlib.Core.Path.{_≡_};
+ghost use Rattle.files.specs.Replay.{refusalAtEnd};
+use crate::words::say_refusal;
 use files::Replay;
 use program::say;
 use program::say_number;
-use program::words::say_refusal;
 
 // The line that was refused: the settings that a replay holds pass their check once a settings line was accepted.
 fn say_place(state: Replay) {
@@ -15,11 +17,13 @@ fn say_place(state: Replay) {
     say_number(progress.done as u64 + 1);
 }
 
-// Says nothing where nothing was refused.
-pub(crate) fn tell(state: Replay) {
+// Ends the line that tells of a refusal, and says nothing where nothing was refused; answers the refusal's number.
+pub fn tell(state: Replay) -> u32
+    ensures { λ r. ⌜ r ≡ refusalAtEnd state ⌝ }
+{
     let refusal = files::refusal_at_end(state);
     if refusal == 0 {
-        return;
+        return refusal;
     }
     say_place(state);
     say(b" is refused with ");
@@ -27,4 +31,5 @@ pub(crate) fn tell(state: Replay) {
     say(b": ");
     say_refusal(refusal);
     say(b"\n");
+    refusal
 }

@@ -1,10 +1,10 @@
--- `files::progress::note_change` meets its contract.
+-- `files::output::note_change` meets its contract.
 -- Assumes nothing.
 use native.Mathlib.Omega.{arith}
 use borrow.Author.Tests.{eq-eqb, ne-eqb}
 use borrow.Author.Needs.{needs}
-use Rattle.files.proofs.progress.note_change.Statement.{statement}
-use Rattle.files.proofs.progress.note_change.Tie as tie
+use Rattle.files.proofs.output.note_change.Statement.{statement}
+use Rattle.files.proofs.output.note_change.Tie as tie
 
 returns : tie.Need-returns
 returns c =

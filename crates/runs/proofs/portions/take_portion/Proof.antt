@@ -1,11 +1,10 @@
--- `replay::take_portion` meets its contract: a sound state takes a portion that the output has room for, and stays sound.
+-- `runs::portions::take_portion` meets its contract: a sound state takes a portion that the output has room for.
 -- Assumes nothing.
-use native.Mathlib.Omega.{arith}
 use lib.ListN.{length}
 use borrow.Author.Needs.{needs}
 use Rattle.files.proofs.AnswerLaws.{sound-answer}
-use Rattle.replay.proofs.take_portion.Statement.{statement}
-use Rattle.replay.proofs.take_portion.Tie as tie
+use Rattle.runs.proofs.portions.take_portion.Statement.{statement}
+use Rattle.runs.proofs.portions.take_portion.Tie as tie
 
 feed-requires : tie.Need-feed-requires
 feed-requires c κs = search needs
@@ -18,8 +17,7 @@ returns c =
     let a = c .before .before .before .before .before .before .args in
     let (sound, room) = c .before .before .before .before .before .before .pre in
     let (answer, (output, within)) = c .before .before .feed .ensures in
-    let (taken, stays) = sound-answer (a .state) (a .portion .now) (length (a .out .now)) (c .before .before .feed .result) sound (omega (arith, sound .short, room)) answer in
-    (taken, (stays, within))
+    (sound-answer (a .state) (a .portion .now) (length (a .out .now)) (c .before .before .feed .result) sound room answer, within)
 
 pub take-portion-spec : {M : Type 1} → statement M
 take-portion-spec = tie.close (tie.spec feed-requires same-length returns)

@@ -1,0 +1,96 @@
+// The replay of standard input, portion by portion.
+use files::Fed;
+use files::Form;
+use files::LONGEST_LINE;
+use files::RECORD_SPREAD;
+use files::Replay;
+ghost use mathlib.Core.Path.{_≡_};
+ghost use Prim.Native.Nat.{_≤_};
+ghost use lib.ListN.{length};
+ghost use Rattle.files.specs.Replay.{longestLine, freshReplay, portionRoom, fedBy, Reached};
+ghost use Rattle.files.specs.device.Calls.{Sound};
+
+// The state after the input, and whether a call of the system failed.
+pub struct Ended {
+    pub state: Replay,
+    pub failed: bool,
+}
+
+// The state after a portion; whether there is nothing left to read, and whether a call of the system failed.
+struct Turn {
+    state: Replay,
+    over: bool,
+    failed: bool,
+}
+
+// "It reads input in portions of at most 64 KiB."
+const PORTION: usize = 65536;
+
+// Room for all that a portion writes, whatever the form and whatever the state holds.
+const ROOM: usize = RECORD_SPREAD * (LONGEST_LINE + PORTION);
+
+// Every portion is taken.
+fn take_portion(state: Replay, portion: &[u8], out: &mut [u8]) -> Fed
+    requires { ⌜ (Sound state) × (portionRoom (state .form) longestLine (length (now portion)) ≤ length (now out)) ⌝ }
+    ensures fed { λ r. ⌜ r ≡ fedBy state (now (portion .entry)) ⌝ }
+    ensures within { λ r. ⌜ r .written ≤ length (now (out .exit)) ⌝ }
+{
+    files::feed(state, portion, out)
+}
+
+// Reads a portion of at most 64 KiB and writes what it gives.
+fn one_turn(state: Replay) -> Turn
+    requires { ⌜ Sound state ⌝ }
+    ensures { λ r. ⌜ Reached state (r .state) ⌝ }
+{
+    let mut portion = [0u8; PORTION];
+    let mut out = [0u8; ROOM];
+    let got = program::read_portion(&mut portion);
+    let n = got.count;
+    if n == 0 {
+        return Turn {
+            state,
+            over: true,
+            failed: got.failed,
+        };
+    }
+    let t = take_portion(state, &portion[..n], &mut out);
+    let w = t.written;
+    let put = program::write_out(&out[..w]);
+    let after = t.state;
+    let over = files::has_stopped(after);
+    Turn {
+        state: after,
+        over,
+        failed: put != w,
+    }
+}
+
+// To the end of the input, or to a refusal, after which nothing would change. Of the input no contract can say more than that it
+// came in some portions.
+pub fn run(form: Form) -> Ended
+    ensures { λ r. ⌜ Reached (freshReplay form) (r .state) ⌝ }
+{
+    let mut state = Replay::fresh(form);
+    // A function must be seen to end. No input has so many portions.
+    let mut portions = u64::MAX;
+    while portions > 0 {
+        let t = one_turn(state);
+        let after = t.state;
+        state = after;
+        if t.failed {
+            return Ended {
+                state,
+                failed: true,
+            };
+        }
+        if t.over {
+            break;
+        }
+        portions -= 1;
+    }
+    Ended {
+        state,
+        failed: false,
+    }
+}
