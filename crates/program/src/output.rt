@@ -1,8 +1,8 @@
 // Bytes to standard output and standard error. No contract can say what reaches a file: these say how many bytes were taken.
-ghost use Prim.Native.Nat.{ℕ, _+_, _≤_};
+ghost use Prim.Native.Nat.{_+_, _≤_};
 ghost use lib.ListN.{length};
 ghost use Rattle.io.specs.Counts.{Counts};
-ghost use Rattle.io.specs.Digits.{digits, Fewest};
+ghost use Rattle.program.specs.Said.{NumberSaid};
 use crate::failure::say_failure;
 use libc::EINTR;
 use libc::STDERR_FILENO;
@@ -61,7 +61,7 @@ pub fn say(words: &[u8]) -> usize
 
 // A number for a person, on standard error: the fewest decimal digits that hold it. Answers how many of them were taken.
 pub fn say_number(n: u64) -> usize
-    ensures { λ r. ⌜ ((k : ℕ) × (Fewest 10 1 n k) × (Counts r (digits 10 k n))) ⌝ }
+    ensures { λ r. ⌜ NumberSaid n r ⌝ }
 {
     let mut text = [0u8; 20];
     let count = io::decimal(n, &mut text);

@@ -7,16 +7,16 @@ use Prim.Native.Nat.{ℕ, suc, _+_, _-_, _/_, _%_, _^_, _≤_, _<_}
 use native.Mathlib.Omega.{arith}
 use lib.ListN.{length, take, drop, length-take}
 use lib.Seq.{sets, sets-eq, drop-at, take-append-seam}
-use borrow.Author.Tests.{eq-eqb}
 use Rattle.text.specs.Line.{rightShape, numbersOf, fitsIn}
 use Rattle.text.specs.Decimals.{decimals}
+use Rattle.rows.proofs.NumberedLaws.{numbered-rest}
 use Rattle.text.proofs.ShapeLaws.{fits-none, fits-decimal}
 use Rattle.text.proofs.DecimalsLaws.{line-shaped, line-numbers, line-most}
 use Rattle.records.specs.declared.record_row.RecordRow.{RecordRow}
 use Rattle.records.specs.declared.reader.RecordRead.the-variants.{Accepted}
 use Rattle.records.specs.RecordRow.{rowFits, timestamp, recordNumbers, recordText, longestRecord}
 use Rattle.records.specs.Writer.{writeRefusal, freeFrom, writtenAt, WriteAnswer, writeAnswer}
-use Rattle.records.specs.Reader.{recordWidths, recordRefusal, recordAnswer}
+use Rattle.records.specs.Reader.{recordWidths, statusRefusal, recordAnswer}
 use Rattle.records.proofs.StatusLaws.{status-bits, status-back}
 use Rattle.records.proofs.WriterLaws.{Fits, fits, fits-row, refused-not, accepted-fits, accepted-place, write-accepted, write-number}
 
@@ -52,10 +52,11 @@ module _ (x : RecordRow) (fit : rowFits x ≡ true) where
   numbers-back = line-numbers recordWidths (recordNumbers x) (omega arith) all-fit
 
   pub text-back : x .outputs < 256 → recordAnswer (recordText x) (x .number - 1) ≡ Accepted x
-  unfolding recordAnswer recordRefusal
+  unfolding recordAnswer
   text-back byte =
       let next : x .number ≡ x .number - 1 + 1 = omega (arith, fits x fit .some) in
-      rw (record-right, numbers-back, eq-eqb (x .number) (x .number - 1 + 1) next, status-bits (x .outputs), status-back (x .outputs) byte)
+      let told = numbered-rest recordWidths statusRefusal (recordText x) (x .number - 1) record-right (rw numbers-back next) in
+      rw (told, numbers-back, status-bits (x .outputs), status-back (x .outputs) byte)
 
 -- a row that fits is accepted where the longest has room
 pub write-fits : (out : List ℕ) (at : ℕ) (x : RecordRow) → Fits x → at + longestRecord ≤ length out → writeAnswer out at x ≡ writtenAt out at (recordText x)

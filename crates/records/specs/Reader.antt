@@ -1,11 +1,11 @@
 -- The reader of the record's rows (02, E1): "01's reader keeps its one block field; a second takes the eight".
 use mathlib.Core.Bool.{cond}
 use mathlib.Core.List.{List, [], _∷_}
-use Prim.Native.Nat.{ℕ, _+_}
+use Prim.Native.Nat.{ℕ}
 use lib.Dec.{eqb}
 use lib.ListN.{getD, take, drop}
-use Rattle.rows.specs.Refusals.{wrongShape, wrongNumber}
-use Rattle.text.specs.Line.{rightShape, numbersOf}
+use Rattle.rows.specs.Numbered.{numberedRefusal}
+use Rattle.text.specs.Line.{numbersOf}
 use Rattle.records.specs.declared.record_row.RecordRow.{RecordRow}
 use Rattle.records.specs.declared.reader.RecordRead.{RecordRead}
 use Rattle.records.specs.declared.reader.RecordRead.the-variants.{Accepted, Refused}
@@ -29,14 +29,13 @@ recordIn ns = record {
   outputs = byteOf (statusIn ns);
 }
 
--- 12 whatever the rest; then 13 where the number "isn't one more than the last"; then 14 where a status field isn't 0 or 1
-unfoldable pub recordRefusal : List ℕ → ℕ → ℕ
-recordRefusal s last =
-    cond (rightShape recordWidths s)
-    (cond (eqb (getD (numbersOf s) 0 0) (last + 1))
-    (cond (allBits (statusIn (numbersOf s))) 0 wrongStatus)
-    wrongNumber)
-    wrongShape
+-- "each 0 or 1, else 14"
+abbrev pub statusRefusal : List ℕ → ℕ
+statusRefusal ns = cond (allBits (statusIn ns)) 0 wrongStatus
+
+-- the lowest number that applies, after a row of number `last`: 12, 13, 14
+abbrev pub recordRefusal : List ℕ → ℕ → ℕ
+recordRefusal s last = numberedRefusal recordWidths statusRefusal s last
 
 -- what the reader answers
 unfoldable pub recordAnswer : List ℕ → ℕ → RecordRead

@@ -1,6 +1,8 @@
-// Rows and settings lines, handed to their readers by themselves. For each case: its name, and what its reader answers.
+// Rows, settings lines and rows of the record, handed to their readers and writer by themselves. For each case: its name, and
+// what is answered.
 mod line;
 mod readers;
+mod record;
 
 use readers::row;
 use readers::settings_line;
@@ -45,4 +47,5 @@ fn main() {
     later_rows();
     first_rows();
     settings_lines();
+    record::cases();
 }

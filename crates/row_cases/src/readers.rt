@@ -19,7 +19,7 @@ fn say_row(row: Row) {
     say(b"\n");
 }
 
-fn say_refused(refusal: u32) {
+pub(crate) fn say_refused(refusal: u32) {
     say(b": refused, ");
     say_number(refusal);
     say(b"\n");

@@ -1,3 +1,4 @@
 pub mod AnswerNumbers
+pub mod NumberedLaws
 pub mod RowLaws
 pub mod SettingsLineLaws

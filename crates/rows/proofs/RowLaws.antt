@@ -1,13 +1,13 @@
 -- From the line that was read to the row's answer; and what an answer tells of its row.
 -- Assumes nothing.
 use mathlib.Core.Path.{_≡_, refl, sym, ap, _∙_}
-use mathlib.Core.Bool.{true, false}
+use mathlib.Core.Bool.{true, false, cond}
 use mathlib.Core.List.{List, [], _∷_}
 use Prim.Native.Nat.{ℕ, _+_, _^_, _≤_, _<_}
 use native.Mathlib.Omega.{arith}
-use lib.Dec.{leb, eqb}
+use lib.Dec.{leb}
 use lib.ListN.{length, getD}
-use borrow.Author.Tests.{eq-eqb, ne-eqb, le-leb, lt-leb, eqb-true, leb-true}
+use borrow.Author.Tests.{le-leb, lt-leb, leb-true}
 use Rattle.text.specs.declared.line.Line.{Line}
 use Rattle.rows.specs.declared.row.Row.{Row}
 use Rattle.rows.specs.declared.row.RowRead.{RowRead}
@@ -17,13 +17,12 @@ use Rattle.text.specs.Decimals.{decimals, lineOf}
 use Rattle.text.specs.device.Calls.{Readable}
 use Rattle.relay.specs.Refusals.{wrongBlock}
 use Rattle.rows.specs.Refusals.{wrongShape, wrongNumber}
-use Rattle.rows.specs.Row.{lastRow, largestCurrent, rowWidths, rowOf, rowRefusal, rowAnswer, rowNumber}
-use Rattle.checks.specs.Checks.{check}
-use Rattle.checks.proofs.PassedLaws.{all-passed}
-use Rattle.rows.proofs.AnswerNumbers.{answer-number}
+use Rattle.rows.specs.Row.{lastRow, largestCurrent, rowWidths, rowOf, blockRefusal, rowRefusal, rowAnswer, rowNumber}
+use Rattle.checks.proofs.Cases.{by-cond}
+use Rattle.rows.proofs.AnswerNumbers.{answer-number, answer-refused}
+use Rattle.rows.proofs.NumberedLaws.{numbered-misshapen, numbered-rest, numbered-passed, read-shape, read-at, read-fits, read-number, read-rest}
 use Rattle.text.proofs.ShapeLaws.{shape-least, number-below, fits-none, fits-decimal}
 use Rattle.text.proofs.DecimalsLaws.{line-shaped, line-numbers}
-use Rattle.text.proofs.LineLaws.{line-shape, line-number}
 
 pub row-readable : Readable rowWidths
 row-readable = record { some = omega arith; few = omega arith; each = refl }
@@ -39,43 +38,35 @@ row-told r s last e =
 module _ (s : List ℕ) (last : ℕ) where
   row-refused : (n : ℕ) → rowRefusal s last ≡ n → (n ≡ 0 → ⊥) → Refused n ≡ rowAnswer s last
   unfolding rowAnswer
-  row-refused n e k = rw (e, ne-eqb n 0 k)
+  row-refused n e k = answer-refused Refused (Accepted (rowOf (numbersOf s))) (rowRefusal s last) n e k
 
   module _ (r : Line) (e : r ≡ lineAnswer rowWidths s) where
     pub row-shape : r .right ≡ false → Refused wrongShape ≡ rowAnswer s last
-    unfolding rowRefusal
-    row-shape t = row-refused wrongShape (rw (sym (line-shape rowWidths s (omega arith) r e) ∙ t)) (λ k. omega arith)
+    row-shape t = row-refused wrongShape (read-shape rowWidths blockRefusal s last (omega arith) (omega arith) r e t) (λ k. omega arith)
 
     module _ (t : r .right ≡ true) where
-      -- the number of field k, and that it fits
-      row-at : (k : ℕ) → k < length rowWidths → (getD (r .numbers) k 0 ≡ getD (numbersOf s) k 0) × (getD (numbersOf s) k 0 < 10 ^ getD rowWidths k 0)
-      row-at k h = line-number rowWidths s (omega arith) r e t k (omega arith) h
+      row-at : (k : ℕ) → k < length rowWidths → getD (r .numbers) k 0 ≡ getD (numbersOf s) k 0
+      row-at = read-at rowWidths blockRefusal s last (omega arith) (omega arith) r e t
 
       pub row-fits : (k : ℕ) → k < length rowWidths → getD (r .numbers) k 0 < 10 ^ getD rowWidths k 0
-      row-fits k h = rw (row-at k h .0) (row-at k h .1)
-
-      right : rightShape rowWidths s ≡ true
-      right = sym (line-shape rowWidths s (omega arith) r e) ∙ t
+      row-fits = read-fits rowWidths blockRefusal s last (omega arith) (omega arith) r e t
 
       pub row-number : (getD (r .numbers) 0 0 ≡ last + 1 → ⊥) → Refused wrongNumber ≡ rowAnswer s last
-      unfolding rowRefusal
-      row-number n = row-refused wrongNumber (rw (right, ← row-at 0 (omega arith) .0, ne-eqb (getD (r .numbers) 0 0) (last + 1) n)) (λ k. omega arith)
+      row-number n = row-refused wrongNumber (read-number rowWidths blockRefusal s last (omega arith) (omega arith) r e t n) (λ k. omega arith)
 
       module _ (n : getD (r .numbers) 0 0 ≡ last + 1) where
+        block-told : rowRefusal s last ≡ cond (leb (getD (r .numbers) 5 0) 1) 0 wrongBlock
+        block-told = rw (row-at 5 (omega arith)) (read-rest rowWidths blockRefusal s last (omega arith) (omega arith) r e t n)
+
         pub row-block : 1 < getD (r .numbers) 5 0 → Refused wrongBlock ≡ rowAnswer s last
-        unfolding rowRefusal
-        row-block b =
-            row-refused wrongBlock
-            (rw (right, ← row-at 0 (omega arith) .0, eq-eqb (getD (r .numbers) 0 0) (last + 1) n, ← row-at 5 (omega arith) .0, lt-leb (getD (r .numbers) 5 0) 1 b))
-            (λ k. omega arith)
+        row-block b = row-refused wrongBlock (block-told ∙ rw (lt-leb (getD (r .numbers) 5 0) 1 b)) (λ k. omega arith)
 
         module _ (b : getD (r .numbers) 5 0 ≤ 1) where
           none : rowRefusal s last ≡ 0
-          unfolding rowRefusal
-          none = rw (right, ← row-at 0 (omega arith) .0, eq-eqb (getD (r .numbers) 0 0) (last + 1) n, ← row-at 5 (omega arith) .0, le-leb (getD (r .numbers) 5 0) 1 b)
+          none = block-told ∙ rw (le-leb (getD (r .numbers) 5 0) 1 b)
 
           same : rowOf (r .numbers) ≡ rowOf (numbersOf s)
-          same = rw (row-at 0 (omega arith) .0, row-at 2 (omega arith) .0, row-at 3 (omega arith) .0, row-at 4 (omega arith) .0, row-at 5 (omega arith) .0)
+          same = rw (row-at 0 (omega arith), row-at 2 (omega arith), row-at 3 (omega arith), row-at 4 (omega arith), row-at 5 (omega arith))
 
           pub row-accepted : Accepted (rowOf (r .numbers)) ≡ rowAnswer s last
           unfolding rowAnswer
@@ -84,8 +75,7 @@ module _ (s : List ℕ) (last : ℕ) where
 -- ---- a line of another shape, and an accepted row
 
 pub row-misshapen : (s : List ℕ) (last : ℕ) → rightShape rowWidths s ≡ false → rowAnswer s last ≡ Refused wrongShape
-unfolding rowRefusal
-row-misshapen s last h = sym (row-refused s last wrongShape (rw h) (λ k. omega arith))
+row-misshapen s last h = sym (row-refused s last wrongShape (numbered-misshapen rowWidths blockRefusal s last h) (λ k. omega arith))
 
 -- a digit in each of six fields, five commas, CR LF
 abbrev pub shortestRow : ℕ
@@ -100,23 +90,24 @@ pub record AcceptedRow (s : List ℕ) (last : ℕ) (x : Row) : Type 0 where
   pub third : x .l3 ≤ largestCurrent
   pub block : x .block ≤ 1
 
+free-block : (block : ℕ) → cond (leb block 1) 0 wrongBlock ≡ 0 → block ≤ 1
+free-block block = by-cond (λ n. n ≡ 0 → block ≤ 1) (leb block 1) 0 wrongBlock (λ t e. leb-true block 1 t) (λ t e. absurd (omega arith))
+
 pub accepted-row : (s : List ℕ) (last : ℕ) (x : Row) → rowAnswer s last ≡ Accepted x → AcceptedRow s last x
-unfolding rowAnswer rowRefusal
+unfolding rowAnswer
 accepted-row s last x e =
-    let n = getD (numbersOf s) 0 0 in
-    let block = getD (numbersOf s) 5 0 in
-    let checks = check (rightShape rowWidths s) wrongShape ∷ check (eqb n (last + 1)) wrongNumber ∷ check (leb block 1) wrongBlock ∷ [] in
     let none : rowRefusal s last ≡ 0 = sym (row-told (Accepted x) s last (sym e) .1) in
-    let (shape, (next, (free, end))) = all-passed checks 0 refl none .0 in
+    let passed = numbered-passed rowWidths blockRefusal s last none in
+    let shape = passed .shape in
     let same : rowOf (numbersOf s) ≡ x = cc in
     let below = number-below rowWidths s (omega arith) shape in
     record {
       long = omega (arith, shape-least rowWidths s (omega arith) shape);
-      number = omega (arith, eqb-true n (last + 1) next, below 0);
+      number = omega (arith, passed .next, below 0);
       first = rw (← same) (omega (arith, below 2));
       second = rw (← same) (omega (arith, below 3));
       third = rw (← same) (omega (arith, below 4));
-      block = rw (← same) (leb-true block 1 free);
+      block = rw (← same) (free-block (getD (numbersOf s) 5 0) (passed .others));
     }
 
 -- after row 999,999 no row is right
@@ -139,11 +130,8 @@ module _ (last stamp a b c block : ℕ) (n : last + 1 ≤ lastRow) (t : stamp �
       (fits-decimal 0 block _ _ (omega arith) (omega arith) fits-none)))))
 
   pub row-back : rowAnswer (lineOf numbers) last ≡ Accepted (record { number = last + 1; l1 = a; l2 = b; l3 = c; block = block })
-  unfolding rowAnswer rowRefusal
+  unfolding rowAnswer
   row-back =
-      rw (
-        line-shaped rowWidths numbers (omega arith) fields-fit,
-        line-numbers rowWidths numbers (omega arith) fields-fit,
-        eq-eqb (last + 1) (last + 1) refl,
-        le-leb block 1 kd,
-      )
+      let back = line-numbers rowWidths numbers (omega arith) fields-fit in
+      let told = numbered-rest rowWidths blockRefusal (lineOf numbers) last (line-shaped rowWidths numbers (omega arith) fields-fit) (rw back) in
+      rw (told, back, le-leb block 1 kd)

@@ -6,7 +6,6 @@ use mathlib.Core.List.{List, [], _∷_}
 use Prim.Native.Nat.{ℕ, _^_, _<_}
 use native.Mathlib.Omega.{arith}
 use lib.ListN.{length, getD}
-use borrow.Author.Tests.{ne-eqb}
 use Rattle.phase.specs.declared.settings.Settings.{Settings}
 use Rattle.phase.specs.Settings.{settingsRefusal}
 use Rattle.text.specs.declared.line.Line.{Line}
@@ -18,7 +17,7 @@ use Rattle.rows.specs.Refusals.{wrongShape}
 use Rattle.rows.specs.SettingsLine.{settingsWidths, settingsIn, settingsLineRefusal, settingsLineAnswer, settingsLineNumber}
 use Rattle.checks.specs.Checks.{check}
 use Rattle.checks.proofs.PassedLaws.{all-passed}
-use Rattle.rows.proofs.AnswerNumbers.{answer-number}
+use Rattle.rows.proofs.AnswerNumbers.{answer-number, answer-refused}
 use Rattle.text.proofs.LineLaws.{line-shape, line-number}
 
 pub settings-readable : Readable settingsWidths
@@ -32,7 +31,7 @@ settings-told r s e =
 
 pub settings-refused : (s : List ℕ) (n : ℕ) → settingsLineRefusal s ≡ n → (n ≡ 0 → ⊥) → Refused n ≡ settingsLineAnswer s
 unfolding settingsLineAnswer
-settings-refused s n e k = rw (e, ne-eqb n 0 k)
+settings-refused s n e k = answer-refused Refused (Accepted (settingsIn (numbersOf s))) (settingsLineRefusal s) n e k
 
 module _ (s : List ℕ) (r : Line) (e : r ≡ lineAnswer settingsWidths s) where
   pub settings-shape : r .right ≡ false → Refused wrongShape ≡ settingsLineAnswer s

@@ -1,3 +1,4 @@
 pub mod Refusals
+pub mod Numbered
 pub mod Row
 pub mod SettingsLine

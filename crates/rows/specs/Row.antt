@@ -1,15 +1,15 @@
 -- A data row (01, 'Rows and the replay program').
 use mathlib.Core.Bool.{cond}
 use mathlib.Core.List.{List, [], _∷_}
-use Prim.Native.Nat.{ℕ, _+_}
+use Prim.Native.Nat.{ℕ}
 use lib.Dec.{leb, eqb}
 use lib.ListN.{getD}
 use Rattle.rows.specs.declared.row.Row.{Row}
 use Rattle.rows.specs.declared.row.RowRead.{RowRead}
 use Rattle.rows.specs.declared.row.RowRead.the-variants.{Accepted, Refused}
 use Rattle.relay.specs.Refusals.{wrongBlock}
-use Rattle.rows.specs.Refusals.{wrongShape, wrongNumber}
-use Rattle.text.specs.Line.{rightShape, numbersOf}
+use Rattle.rows.specs.Numbered.{numberedRefusal}
+use Rattle.text.specs.Line.{numbersOf}
 
 -- "number, timestamp, L1, L2, L3, block": "Digits only, at most 6, 10, 7, 7, 7 and 1 of them"
 abbrev pub rowWidths : List ℕ
@@ -27,15 +27,13 @@ largestCurrent = 9999999
 abbrev pub rowOf : List ℕ → Row
 rowOf ns = record { number = getD ns 0 0; l1 = getD ns 2 0; l2 = getD ns 3 0; l3 = getD ns 4 0; block = getD ns 5 0 }
 
--- The lowest number that applies, after a row of number `last`: 12 whatever the rest, for "a line's numbers are looked at
--- only if its shape is right"; 13 where the number "isn't one more than the last"; 14 where the block field "isn't 0 or 1".
-unfoldable pub rowRefusal : List ℕ → ℕ → ℕ
-rowRefusal s last =
-    cond (rightShape rowWidths s)
-    (cond (eqb (rowOf (numbersOf s) .number) (last + 1))
-    (cond (leb (rowOf (numbersOf s) .block) 1) 0 wrongBlock)
-    wrongNumber)
-    wrongShape
+-- 14 where the block field "isn't 0 or 1"
+abbrev pub blockRefusal : List ℕ → ℕ
+blockRefusal ns = cond (leb (rowOf ns .block) 1) 0 wrongBlock
+
+-- the lowest number that applies, after a row of number `last`: 12, 13, 14
+abbrev pub rowRefusal : List ℕ → ℕ → ℕ
+rowRefusal s last = numberedRefusal rowWidths blockRefusal s last
 
 -- what the reader of rows answers
 unfoldable pub rowAnswer : List ℕ → ℕ → RowRead

@@ -20,7 +20,7 @@ returns : tie.Need-returns
 returns c =
     let decimal = c .before .before .decimal in
     let (counted, (fewest, spelled)) = decimal .ensures in
-    (decimal .result, fewest, rw spelled at (c .say .ensures))
+    record { count = decimal .result; fewest = fewest; said = rw spelled at (c .say .ensures) }
 
 pub say-number-spec : {M : Type 1} → statement M
 say-number-spec =

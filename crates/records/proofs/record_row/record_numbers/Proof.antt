@@ -12,7 +12,7 @@ cast-b : tie.Need-cast-b
 cast-b c = search needs
 
 sub-t3 : tie.Need-sub-t3
-sub-t3 c = fits (c .before .before .args .x) (c .before .before .pre) .some
+sub-t3 c = omega (arith, fits (c .before .before .args .x) (c .before .before .pre) .some)
 
 mul-t4 : tie.Need-mul-t4
 mul-t4 c = omega (arith, fits (c .before .before .args .x) (c .before .before .pre) .most)

@@ -1,6 +1,7 @@
 -- `records::status::read_status` meets its contract: from the last field to the first.
 -- Assumes nothing.
 use mathlib.Core.Path.{_≡_}
+use Prim.Native.Nat.{_-_}
 use native.Mathlib.Omega.{arith}
 use borrow.Author.Needs.{needs}
 use Rattle.records.proofs.StatusLaws.{StatusTurn, turn-first, turn-down, turn-wrong, turn-small, turn-last}
@@ -28,7 +29,7 @@ shared-slice-read-bit c = search needs
 returns : tie.Need-returns Inv-loop μ-loop
 returns c =
     let l = c .before .before .before .loop in
-    turn-wrong (c .before .before .before .before .args .fields .now) (l .k) _ (l .byte) (l .inv) (omega arith) (c .if1 .taken)
+    turn-wrong (c .before .before .before .before .args .fields .now) (l .k) (l .k - 1) (l .byte) (l .inv) (omega (arith, c .before .before .loop-test .taken)) (omega (arith, c .if1 .taken))
 
 mul-byte : tie.Need-mul-byte Inv-loop μ-loop
 mul-byte c =
@@ -49,7 +50,7 @@ loop-less c = search needs
 loop-again : tie.Need-loop-again Inv-loop μ-loop
 loop-again c =
     let l = c .before .before .before .loop in
-    turn-down (c .before .before .before .before .args .fields .now) (l .k) _ (l .byte) (l .inv) (omega arith) (c .if1 .left)
+    turn-down (c .before .before .before .before .args .fields .now) (l .k) (l .k - 1) (l .byte) (l .inv) (omega (arith, c .before .before .loop-test .taken)) (omega (arith, c .if1 .left))
 
 returns-2 : tie.Need-returns-2 Inv-loop μ-loop
 returns-2 c =
