@@ -33,8 +33,8 @@ room-for-any Record read most h = omega arith
 
 -- the code divides the room in place of multiplying the bytes
 pub input-room : (form : Form) (bytes room : ℕ) → leb bytes (room / spread form) ≡ leb (spread form * bytes) room
-input-room Changes bytes room = leb-iff bytes (room / 1) (1 * bytes) room (λ h. omega arith) (λ h. omega arith)
-input-room Record bytes room = leb-iff bytes (room / 5) (5 * bytes) room (λ h. omega arith) (λ h. omega arith)
+input-room Changes bytes room = leb-iff bytes (room / spread Changes) (spread Changes * bytes) room (λ h. omega arith) (λ h. omega arith)
+input-room Record bytes room = leb-iff bytes (room / spread Record) (spread Record * bytes) room (λ h. omega arith) (λ h. omega arith)
 
 fed-form : (r : Replay) (s : List ℕ) → fed r s .form ≡ r .form
 unfolding fed
@@ -65,12 +65,15 @@ module _ (r : Replay) (s : List ℕ) (room : ℕ) where
     unfolding writesIf
     untaken-writes = ap (λ (t : Bool). writesIf t r s) e
 
-  -- a replay that began fresh takes every portion, where the output is as large as the portion and what is held
+  -- a replay that began fresh takes every portion that the output has room for
   pub sound-takes : Sound r → portionRoom (r .form) (r .cutter .count) (length s) ≤ room → takes (r .form) (r .cutter .count) (length s) room ≡ true
   sound-takes h k = rw (lt-ltb (r .cutter .count) lineLimit (omega (arith, h .short)), le-leb (portionRoom (r .form) (r .cutter .count) (length s)) room k)
 
   pub sound-answer : (x : Fed) → Sound r → portionRoom (r .form) longestLine (length s) ≤ room → x ≡ feedAnswer r s room → x ≡ fedBy r s
   sound-answer x h k e = e ∙ taken-answer (sound-takes h (held-less (r .form) (r .cutter .count) (length s) room (h .short) k))
+
+  pub sound-writes : Sound r → portionRoom (r .form) longestLine (length s) ≤ room → feedWrites r s room ≡ writes r s
+  sound-writes h k = taken-writes (sound-takes h (held-less (r .form) (r .cutter .count) (length s) room (h .short) k))
 
 -- ---- ending
 
@@ -83,11 +86,14 @@ module _ (r : Replay) (room : ℕ) where
   unfolding finishIf
   finish-roomy h = ap (λ (t : Bool). finishIf t r) (le-leb endRoom room h)
 
+  pub finish-some : endRoom ≤ room → 1 ≤ length (finishWrites r room)
+  finish-some h = rw (finish-roomy h) (omega arith)
+
 -- ---- all calls together
 
 -- what the calls hand out, one after the other: a portion each, with an output of `room` bytes, and then the end
 unfoldable pub handedOut : Replay → List (List ℕ) → ℕ → Told
-handedOut r [] room = record { rows = []; end = finishWrites r room }
+handedOut r [] room = record { notes = []; end = finishWrites r room }
 handedOut r (p ∷ ps) room = writtenFirst (feedWrites r p room) (handedOut (feedAnswer r p room .state) ps room)
 
 -- the output has room for each portion and what a state may hold
@@ -110,9 +116,9 @@ told-of-calls form ps room k e = handed-fed (freshReplay form) ps room (fresh-so
 
 -- WHAT A TESTER RELIES ON: whatever the portions, what the calls hand out is the replay of the whole input
 pub replay-of-calls : (ps : List (List ℕ)) (room : ℕ) → endRoom ≤ room → roomFor Changes ps room ≡ true
-    → let x : Told = handedOut (freshReplay Changes) ps room in x .rows ++ x .end ≡ replayOf (joined ps)
-replay-of-calls ps room k e = ap (λ (x : Told). x .rows ++ x .end) (told-of-calls Changes ps room k e)
+    → let x : Told = handedOut (freshReplay Changes) ps room in x .notes ++ x .end ≡ replayOf (joined ps)
+replay-of-calls ps room k e = ap (λ (x : Told). x .notes ++ x .end) (told-of-calls Changes ps room k e)
 
 -- WHAT A VIEWER RELIES ON: whatever the portions, what they write is the record of the whole input
-pub record-of-calls : (ps : List (List ℕ)) (room : ℕ) → endRoom ≤ room → roomFor Record ps room ≡ true → handedOut (freshReplay Record) ps room .rows ≡ recordOf (joined ps)
-record-of-calls ps room k e = ap (λ (x : Told). x .rows) (told-of-calls Record ps room k e)
+pub record-of-calls : (ps : List (List ℕ)) (room : ℕ) → endRoom ≤ room → roomFor Record ps room ≡ true → handedOut (freshReplay Record) ps room .notes ≡ recordOf (joined ps)
+record-of-calls ps room k e = ap (λ (x : Told). x .notes) (told-of-calls Record ps room k e)

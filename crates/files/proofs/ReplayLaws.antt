@@ -26,14 +26,14 @@ use Rattle.text.proofs.LinesLaws.{hasCrLf, has-ends, open-input, line-first}
 
 -- the end line alone, in any form: `end,0,` and a number
 abbrev pub onlyEnd : ℕ → Told
-onlyEnd n = record { rows = []; end = endLine 0 n }
+onlyEnd n = record { notes = []; end = endLine 0 n }
 
 -- such an input's replay is the end line, and its record is empty
 pub replay-of-end : (s : List ℕ) (n : ℕ) → toldOf Changes s ≡ onlyEnd n → replayOf s ≡ endLine 0 n
-replay-of-end s n e = ap (λ (x : Told). x .rows ++ x .end) e
+replay-of-end s n e = ap (λ (x : Told). x .notes ++ x .end) e
 
 pub record-of-end : (s : List ℕ) (n : ℕ) → toldOf Record s ≡ onlyEnd n → recordOf s ≡ []
-record-of-end s n e = ap (λ (x : Told). x .rows) e
+record-of-end s n e = ap (λ (x : Told). x .notes) e
 
 -- the record's end line is the replay's: the form decides what rows write, and nothing else
 same-end : (p : Progress) (ls : List (List ℕ)) → byLines Record p ls .end ≡ byLines Changes p ls .end

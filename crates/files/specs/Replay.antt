@@ -22,17 +22,17 @@ use Rattle.files.specs.Progress.{freshProgress, refuse, afterLine, wrote
 
 -- ---- the whole input
 
--- what an input gives: the bytes that its lines write, one after the other, and the end line
+-- what an input gives: what its rows write, one after the other, and the end line
 pub record Told : Type 0 where
-  pub rows : List ℕ
+  pub notes : List ℕ
   pub end : List ℕ
 
 abbrev pub endAlone : Progress → Told
-endAlone p = record { rows = []; end = endOf p }
+endAlone p = record { notes = []; end = endOf p }
 
 -- with bytes that were written before
 abbrev pub writtenFirst : List ℕ → Told → Told
-writtenFirst bytes x = record { rows = bytes ++ x .rows; end = x .end }
+writtenFirst bytes x = record { notes = bytes ++ x .notes; end = x .end }
 
 unfoldable pub byLines : Form → Progress → List (List ℕ) → Told
 byLines form p [] = endAlone p
@@ -43,11 +43,11 @@ toldOf form s = byLines form freshProgress (linesOf CrLf s)
 
 -- WHAT THE REPLAY WRITES, of its whole input
 abbrev pub replayOf : List ℕ → List ℕ
-replayOf s = toldOf Changes s .rows ++ toldOf Changes s .end
+replayOf s = toldOf Changes s .notes ++ toldOf Changes s .end
 
--- WHAT THE PROGRAM `record` WRITES: "one record row for each row done, nothing else"
+-- WHAT THE PROGRAM `record` WRITES, of its whole input: a row of the record for each row done
 abbrev pub recordOf : List ℕ → List ℕ
-recordOf s = toldOf Record s .rows
+recordOf s = toldOf Record s .notes
 
 -- ---- a state: the form, the progress, and the cutter that holds the line that has begun
 

@@ -5,11 +5,11 @@ mod replay;
 
 pub use output::END_ROOM;
 pub use output::Form;
+pub use output::RECORD_SPREAD;
 pub use progress::Progress;
 pub use progress::Stage;
 pub use replay::Fed;
 pub use replay::LONGEST_LINE;
-pub use replay::RECORD_SPREAD;
 pub use replay::Replay;
 pub use replay::feed;
 pub use replay::finish;

@@ -18,6 +18,9 @@ pub enum Form {
     Record,
 }
 
+// A line of the input that writes a row of the record writes at most so many times its own bytes.
+pub const RECORD_SPREAD: usize = 5;
+
 // Room for any end line.
 pub const END_ROOM: usize = 26;
 

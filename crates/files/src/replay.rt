@@ -11,6 +11,7 @@ ghost use Rattle.files.specs.Progress.{afterLine, wroteLine};
 ghost use Rattle.files.specs.device.Calls.{LineNoted, takenWith, PortionFed};
 use crate::output::END_ROOM;
 use crate::output::Form;
+use crate::output::RECORD_SPREAD;
 use crate::progress::Noted;
 use crate::progress::Progress;
 use crate::progress::Stage;
@@ -24,9 +25,6 @@ use text::lines::Cut;
 
 // A row has at most so many bytes, and a settings line fewer.
 pub const LONGEST_LINE: usize = 45;
-
-// What a line writes is at most so many times as long as the line, where a row of the record is written.
-pub const RECORD_SPREAD: usize = 5;
 
 // A line of one byte more is too long.
 pub const LINE_LIMIT: usize = LONGEST_LINE + 1;

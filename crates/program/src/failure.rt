@@ -11,7 +11,7 @@ use libc::ENOSPC;
 use libc::EPERM;
 use libc::EPIPE;
 
-// No error is negative: the test is there for the cast's proof.
+// No error is negative: the test is there for the cast's proof. Answers how many of the digits were taken.
 fn say_error_number(error: i32) -> usize {
     say(b"error ");
     if 0 <= error {
@@ -20,7 +20,8 @@ fn say_error_number(error: i32) -> usize {
     0
 }
 
-// What a read or a write can fail with, in the C library's words; any other error by its number.
+// What a read or a write can fail with, in the C library's words; any other error by its number. Answers how many bytes were
+// taken, of a number its digits.
 fn say_error(error: i32) -> usize {
     match error {
         EPERM => say(b"Operation not permitted"),

@@ -1,22 +1,24 @@
 -- What is written is read back: the text of a row, by the reader of the record.
 -- Assumes nothing.
-use mathlib.Core.Path.{_≡_, refl, sym, ap, _∙_}
+use mathlib.Core.Path.{_≡_, refl, sym, _∙_}
 use mathlib.Core.Bool.{true}
 use mathlib.Core.List.{List, [], _∷_, _++_, append-assoc}
 use Prim.Native.Nat.{ℕ, suc, _+_, _-_, _/_, _%_, _^_, _≤_, _<_}
 use native.Mathlib.Omega.{arith}
 use lib.ListN.{length, take, drop, length-take}
-use lib.Seq.{sets, sets-eq, drop-at, take-append-seam}
-use Rattle.text.specs.Line.{rightShape, numbersOf, fitsIn}
+use lib.Seq.{sets-eq, drop-at, take-append-seam}
+use Rattle.rows.specs.Row.{lastRow, largestCurrent}
+use Rattle.text.specs.Number.{decimalIn}
+use Rattle.text.specs.Line.{rightShape, numbersOf, fitsIn, spelled}
 use Rattle.text.specs.Decimals.{decimals}
-use Rattle.rows.proofs.NumberedLaws.{numbered-rest}
-use Rattle.text.proofs.ShapeLaws.{fits-none, fits-decimal}
+use Rattle.rows.proofs.NumberedLaws.{numbered-rest, numbered-passed}
+use Rattle.text.proofs.ShapeLaws.{shape-most, fits-none, fits-decimal}
 use Rattle.text.proofs.DecimalsLaws.{line-shaped, line-numbers, line-most}
 use Rattle.records.specs.declared.record_row.RecordRow.{RecordRow}
 use Rattle.records.specs.declared.reader.RecordRead.the-variants.{Accepted}
-use Rattle.records.specs.RecordRow.{rowFits, timestamp, recordNumbers, recordText, longestRecord}
+use Rattle.records.specs.RecordRow.{rowFits, timestamp, fieldNumbers, recordText, longestRecord}
 use Rattle.records.specs.Writer.{writeRefusal, freeFrom, writtenAt, WriteAnswer, writeAnswer}
-use Rattle.records.specs.Reader.{recordWidths, statusRefusal, recordAnswer}
+use Rattle.records.specs.Reader.{recordWidths, longestRead, statusRefusal, recordRefusal, recordAnswer}
 use Rattle.records.proofs.StatusLaws.{status-bits, status-back}
 use Rattle.records.proofs.WriterLaws.{Fits, fits, fits-row, refused-not, accepted-fits, accepted-place, write-accepted, write-number}
 
@@ -25,7 +27,7 @@ module _ (x : RecordRow) (fit : rowFits x ≡ true) where
   bit value ws fs h = fits-decimal 0 (x .outputs / value % 2) ws fs (omega arith) (omega arith) h
 
   -- the fields fit the reader's widths, and a timestamp fewer
-  fields-fit : (w : ℕ) → w ≤ 9 → timestamp (x .number) < 10 ^ suc w → fitsIn (6 ∷ suc w ∷ 7 ∷ 7 ∷ 7 ∷ 1 ∷ 1 ∷ 1 ∷ 1 ∷ 1 ∷ 1 ∷ 1 ∷ 1 ∷ []) (decimals (recordNumbers x)) ≡ true
+  fields-fit : (w : ℕ) → w ≤ 9 → timestamp (x .number) < 10 ^ suc w → fitsIn (6 ∷ suc w ∷ 7 ∷ 7 ∷ 7 ∷ 1 ∷ 1 ∷ 1 ∷ 1 ∷ 1 ∷ 1 ∷ 1 ∷ 1 ∷ []) (decimals (fieldNumbers x)) ≡ true
   fields-fit w h k =
       let f = fits x fit in
       fits-decimal 5 (x .number) _ _ (omega arith) (omega (arith, f .most))
@@ -37,19 +39,19 @@ module _ (x : RecordRow) (fit : rowFits x ≡ true) where
 
   pub record-most : length (recordText x) ≤ longestRecord
   unfolding recordText
-  record-most = omega (arith, line-most _ (recordNumbers x) (omega arith) (fields-fit 8 (omega arith) (omega (arith, fits x fit .most))))
+  record-most = omega (arith, line-most _ (fieldNumbers x) (omega arith) (fields-fit 8 (omega arith) (omega (arith, fits x fit .most))))
 
-  all-fit : fitsIn recordWidths (decimals (recordNumbers x)) ≡ true
+  all-fit : fitsIn recordWidths (decimals (fieldNumbers x)) ≡ true
   all-fit = fields-fit 9 (omega arith) (omega (arith, fits x fit .most))
 
   pub record-right : rightShape recordWidths (recordText x) ≡ true
   unfolding recordText
-  record-right = line-shaped recordWidths (recordNumbers x) (omega arith) all-fit
+  record-right = line-shaped recordWidths (fieldNumbers x) (omega arith) all-fit
 
   -- the numbers of its fields, the eight bits among them
-  pub numbers-back : numbersOf (recordText x) ≡ recordNumbers x
+  pub numbers-back : numbersOf (recordText x) ≡ fieldNumbers x
   unfolding recordText
-  numbers-back = line-numbers recordWidths (recordNumbers x) (omega arith) all-fit
+  numbers-back = line-numbers recordWidths (fieldNumbers x) (omega arith) all-fit
 
   pub text-back : x .outputs < 256 → recordAnswer (recordText x) (x .number - 1) ≡ Accepted x
   unfolding recordAnswer
@@ -58,10 +60,19 @@ module _ (x : RecordRow) (fit : rowFits x ≡ true) where
       let told = numbered-rest recordWidths statusRefusal (recordText x) (x .number - 1) record-right (rw numbers-back next) in
       rw (told, numbers-back, status-bits (x .outputs), status-back (x .outputs) byte)
 
+-- the longest row
+pub most-reached : length (recordText (record { number = lastRow; l1 = largestCurrent; l2 = largestCurrent; l3 = largestCurrent; outputs = 255 })) ≡ longestRecord
+unfolding recordText spelled decimalIn
+most-reached = refl
+
+-- the longest line that the reader takes
+pub read-most : (s : List ℕ) (last : ℕ) → recordRefusal s last ≡ 0 → length s ≤ longestRead
+read-most s last e = omega (arith, shape-most recordWidths s (omega arith) (numbered-passed recordWidths statusRefusal s last e .shape))
+
 -- a row that fits is accepted where the longest has room
 pub write-fits : (out : List ℕ) (at : ℕ) (x : RecordRow) → Fits x → at + longestRecord ≤ length out → writeAnswer out at x ≡ writtenAt out at (recordText x)
 write-fits out at x f h =
-    write-accepted out at x (refused-not x (freeFrom out at) (fits-row x f) (omega (arith, record-most x (fits-row x f))))
+    write-accepted out at x (refused-not x (freeFrom (length out) at) (fits-row x f) (omega (arith, record-most x (fits-row x f))))
 
 -- ---- the bytes written
 
@@ -79,6 +90,6 @@ stored out at xs h =
 pub reading-back : (out : List ℕ) (at : ℕ) (x : RecordRow) → x .outputs < 256 → writeAnswer out at x .answer .refusal ≡ 0
     → recordAnswer (bytesWritten at (writeAnswer out at x)) (x .number - 1) ≡ Accepted x
 reading-back out at x byte e =
-    let none : writeRefusal x (freeFrom out at) ≡ 0 = sym (write-number out at x) ∙ e in
-    let room = accepted-place x (freeFrom out at) (length out) at refl none in
-    rw (write-accepted out at x none, stored out at (recordText x) room) (text-back x (accepted-fits x (freeFrom out at) none) byte)
+    let none : writeRefusal x (freeFrom (length out) at) ≡ 0 = sym (write-number out at x) ∙ e in
+    let room = accepted-place x (freeFrom (length out) at) (length out) at refl none in
+    rw (write-accepted out at x none, stored out at (recordText x) room) (text-back x (accepted-fits x (freeFrom (length out) at) none) byte)

@@ -1,4 +1,5 @@
 pub mod StatusLaws
+pub mod StatusMeans
 pub mod WriterLaws
 pub mod ReaderLaws
 pub mod BackLaws

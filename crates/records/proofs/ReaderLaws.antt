@@ -19,7 +19,8 @@ use Rattle.records.specs.declared.status.Status.{Status}
 use Rattle.records.specs.declared.reader.RecordRead.{RecordRead}
 use Rattle.records.specs.declared.reader.RecordRead.the-variants.{Accepted, Refused}
 use Rattle.records.specs.Refusals.{wrongStatus}
-use Rattle.records.specs.Status.{allBits, byteOf, statusAnswer}
+use Rattle.records.specs.Status.{allBits, byteOf}
+use Rattle.records.specs.device.StatusRead.{statusAnswer}
 use Rattle.records.specs.Reader.{recordWidths, statusIn, recordIn, statusRefusal, recordRefusal, recordAnswer, recordNumber}
 
 pub record-readable : Readable recordWidths

@@ -1,6 +1,6 @@
 -- The status fields: that the bits of a byte give it back, and how far the code has come in reading them.
 -- Assumes nothing.
-use mathlib.Core.Path.{_≡_, refl, sym, _∙_}
+use mathlib.Core.Path.{_≡_}
 use mathlib.Core.Bool.{true, false}
 use mathlib.Core.List.{List, [], _∷_}
 use Prim.Native.Nat.{ℕ, zero, suc, _+_, _-_, _*_, _/_, _%_, _^_, _≤_, _<_}
@@ -9,11 +9,11 @@ use native.Mathlib.Omega.{arith}
 use lib.Dec.{leb}
 use lib.ListN.{length, getD, drop}
 use lib.Seq.{drop-cons, drop-length}
-use borrow.Author.Tests.{le-leb, lt-leb, leb-true}
+use borrow.Author.Tests.{le-leb, leb-true}
 use Rattle.checks.proofs.Cases.{not-true}
 use Rattle.checks.proofs.Tests.{both-true}
-use Rattle.records.specs.declared.status.Status.{Status}
-use Rattle.records.specs.Status.{statusOf, allBits, byteOf, statusAnswer}
+use Rattle.records.specs.Status.{statusOf, allBits, byteOf}
+use Rattle.records.specs.device.StatusRead.{statusAnswer}
 
 -- ---- writing and reading
 

@@ -1,17 +1,16 @@
 -- The writer of the record: its refusal, its answer, and rows written one after the other.
 -- Assumes nothing.
-use mathlib.Core.Path.{_≡_, refl, sym, ap, _∙_}
-use mathlib.Core.Bool.{Bool, true, false, cond, _&&_}
+use mathlib.Core.Path.{_≡_, refl, sym, _∙_}
+use mathlib.Core.Bool.{true, false, cond, _&&_}
 use mathlib.Core.List.{List, [], _∷_, _++_}
 use Prim.Native.Nat.{ℕ, _+_, _-_, _≤_, _<_}
-use native.Mathlib.Nat.{add-zero}
 use native.Mathlib.Omega.{arith}
 use lib.Dec.{leb, eqb}
 use lib.ListN.{length, length-append}
 use lib.Seq.{sets}
 use borrow.Author.Tests.{eq-eqb, ne-eqb, le-leb, lt-leb, leb-true, eqb-true}
 use Rattle.checks.specs.Range.{inRange}
-use Rattle.checks.proofs.Cases.{by-cond, not-both}
+use Rattle.checks.proofs.Cases.{by-cond}
 use Rattle.checks.proofs.Tests.{both-true, in-range, is-in-range}
 use Rattle.rows.specs.Row.{lastRow, largestCurrent}
 use Rattle.text.specs.Lines.{joined}
@@ -94,28 +93,28 @@ module _ (x : RecordRow) (free : ℕ) where
 -- ---- the answer
 
 module _ (out : List ℕ) (at : ℕ) (x : RecordRow) where
-  pub write-accepted : writeRefusal x (freeFrom out at) ≡ 0 → writeAnswer out at x ≡ writtenAt out at (recordText x)
+  pub write-accepted : writeRefusal x (freeFrom (length out) at) ≡ 0 → writeAnswer out at x ≡ writtenAt out at (recordText x)
   unfolding writeAnswer
-  write-accepted e = rw (eq-eqb (writeRefusal x (freeFrom out at)) 0 e)
+  write-accepted e = rw (eq-eqb (writeRefusal x (freeFrom (length out) at)) 0 e)
 
   -- from what the writer of the row said of the free part
-  pub write-done : writeRefusal x (freeFrom out at) ≡ 0 → (long : ℕ) (after : List ℕ) → long ≡ 0 + length (recordText x) → after ≡ sets out at (recordText x)
+  pub write-done : writeRefusal x (freeFrom (length out) at) ≡ 0 → (long : ℕ) (after : List ℕ) → long ≡ 0 + length (recordText x) → after ≡ sets out at (recordText x)
       → record { answer = record { refusal = 0; place = at + long }; buffer = after } ≡ writeAnswer out at x
   write-done e long after n s =
       let place : at + long ≡ at + length (recordText x) = omega arith in
       rw (place, s) (sym (write-accepted e))
 
-  pub write-refused : (writeRefusal x (freeFrom out at) ≡ 0 → ⊥) → writeAnswer out at x ≡ refusedAt (writeRefusal x (freeFrom out at)) out at
+  pub write-refused : (writeRefusal x (freeFrom (length out) at) ≡ 0 → ⊥) → writeAnswer out at x ≡ refusedAt (writeRefusal x (freeFrom (length out) at)) out at
   unfolding writeAnswer
-  write-refused k = rw (ne-eqb (writeRefusal x (freeFrom out at)) 0 k)
+  write-refused k = rw (ne-eqb (writeRefusal x (freeFrom (length out) at)) 0 k)
 
   -- the number that the answer has
-  pub write-number : writeAnswer out at x .answer .refusal ≡ writeRefusal x (freeFrom out at)
+  pub write-number : writeAnswer out at x .answer .refusal ≡ writeRefusal x (freeFrom (length out) at)
   unfolding writeAnswer
   write-number =
-      by-cond (λ (a : WriteAnswer). a .answer .refusal ≡ writeRefusal x (freeFrom out at)) (eqb (writeRefusal x (freeFrom out at)) 0)
-      (writtenAt out at (recordText x)) (refusedAt (writeRefusal x (freeFrom out at)) out at)
-      (λ t. sym (eqb-true (writeRefusal x (freeFrom out at)) 0 t)) (λ t. refl)
+      by-cond (λ (a : WriteAnswer). a .answer .refusal ≡ writeRefusal x (freeFrom (length out) at)) (eqb (writeRefusal x (freeFrom (length out) at)) 0)
+      (writtenAt out at (recordText x)) (refusedAt (writeRefusal x (freeFrom (length out) at)) out at)
+      (λ t. sym (eqb-true (writeRefusal x (freeFrom (length out) at)) 0 t)) (λ t. refl)
 
 -- ---- rows one after the other
 

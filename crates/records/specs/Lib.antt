@@ -3,3 +3,4 @@ pub mod Status
 pub mod RecordRow
 pub mod Writer
 pub mod Reader
+pub mod device

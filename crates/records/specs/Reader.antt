@@ -16,6 +16,10 @@ use Rattle.records.specs.Status.{allBits, byteOf}
 abbrev pub recordWidths : List ℕ
 recordWidths = 6 ∷ 10 ∷ 7 ∷ 7 ∷ 7 ∷ 1 ∷ 1 ∷ 1 ∷ 1 ∷ 1 ∷ 1 ∷ 1 ∷ 1 ∷ []
 
+-- the longest line that it takes: as many digits, twelve commas, CR LF (`read-most` of `proofs/`)
+abbrev pub longestRead : ℕ
+longestRead = 59
+
 abbrev pub statusIn : List ℕ → List ℕ
 statusIn ns = take 8 (drop 5 ns)
 

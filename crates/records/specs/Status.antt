@@ -1,9 +1,8 @@
 -- The status fields of the record (02, E1): "one for each bit of the output byte from bit 1 upward".
-use mathlib.Core.Bool.{Bool, true, false, cond, _&&_}
+use mathlib.Core.Bool.{Bool, true, _&&_}
 use mathlib.Core.List.{List, [], _∷_}
 use Prim.Native.Nat.{ℕ, _+_, _*_, _/_, _%_}
 use lib.Dec.{leb}
-use Rattle.records.specs.declared.status.Status.{Status}
 
 -- the bit of a value: 1 where it is on, else 0
 abbrev pub bitOf : ℕ → ℕ → ℕ
@@ -33,7 +32,3 @@ allBits (b ∷ bs) = leb b 1 && allBits bs
 unfoldable pub byteOf : List ℕ → ℕ
 byteOf [] = 0
 byteOf (b ∷ bs) = b + 2 * byteOf bs
-
--- what the reader of status fields answers
-abbrev pub statusAnswer : List ℕ → Status
-statusAnswer bs = cond (allBits bs) (record { right = true; byte = byteOf bs }) (record { right = false; byte = 0 })

@@ -20,8 +20,8 @@ unfoldable pub writeRefusal : RecordRow → ℕ → ℕ
 writeRefusal x free = firstFailed (writeChecks x free) 0
 
 -- "a place past the end leaves none": less than 0 is 0
-abbrev pub freeFrom : List ℕ → ℕ → ℕ
-freeFrom out at = length out - at
+abbrev pub freeFrom : ℕ → ℕ → ℕ
+freeFrom long at = long - at
 
 -- what a write answers, and what the lent buffer holds afterwards
 pub record WriteAnswer : Type 0 where
@@ -38,6 +38,6 @@ refusedAt refusal out at = record { answer = record { refusal = refusal; place =
 
 unfoldable pub writeAnswer : List ℕ → ℕ → RecordRow → WriteAnswer
 writeAnswer out at x =
-    cond (eqb (writeRefusal x (freeFrom out at)) 0)
+    cond (eqb (writeRefusal x (freeFrom (length out) at)) 0)
     (writtenAt out at (recordText x))
-    (refusedAt (writeRefusal x (freeFrom out at)) out at)
+    (refusedAt (writeRefusal x (freeFrom (length out) at)) out at)

@@ -1,7 +1,7 @@
 // A row of the record: number, timestamp, L1, L2, L3, and the eight bits of the output byte.
 ghost use mathlib.Core.Path.{_≡_};
 ghost use mathlib.Core.Bool.{true};
-ghost use Rattle.records.specs.RecordRow.{rowFits, recordNumbers};
+ghost use Rattle.records.specs.RecordRow.{rowFits, fieldNumbers};
 
 pub struct RecordRow {
     pub number: u32,
@@ -18,7 +18,7 @@ pub const LAST_ROW: u32 = 999_999;
 
 pub const LARGEST_CURRENT: u32 = 9_999_999;
 
-// Whether the row's numbers have at most as many digits as their fields.
+// Whether the number is 1 to 999,999 and no current is over 9,999,999.
 pub(crate) fn row_fits(x: RecordRow) -> bool
     ensures { λ r. ⌜ r ≡ rowFits x ⌝ }
 {
@@ -38,9 +38,9 @@ pub(crate) fn row_fits(x: RecordRow) -> bool
 }
 
 // The numbers of its fields.
-pub(crate) fn record_numbers(x: RecordRow) -> [u32; FIELDS]
+pub(crate) fn field_numbers(x: RecordRow) -> [u32; FIELDS]
     requires { ⌜ rowFits x ≡ true ⌝ }
-    ensures { λ r. ⌜ r ≡ recordNumbers x ⌝ }
+    ensures { λ r. ⌜ r ≡ fieldNumbers x ⌝ }
 {
     let b = x.outputs as u32;
     [

@@ -2,7 +2,7 @@
 ghost use mathlib.Core.Path.{_≡_};
 ghost use Prim.Native.Nat.{_≤_};
 ghost use lib.ListN.{length};
-ghost use Rattle.records.specs.Status.{statusAnswer};
+ghost use Rattle.records.specs.device.StatusRead.{statusAnswer};
 
 // Whether each field is 0 or 1, and then the byte whose bits they are.
 pub struct Status {

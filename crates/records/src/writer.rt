@@ -1,13 +1,13 @@
 // Writes the record, row after row, into a lent buffer.
 ghost use mathlib.Core.Path.{_≡_};
 ghost use mathlib.Core.Bool.{true};
-ghost use Prim.Native.Nat.{_≤_, _-_};
+ghost use Prim.Native.Nat.{_≤_};
 ghost use lib.ListN.{length};
 ghost use Rattle.records.specs.RecordRow.{rowFits, recordText};
-ghost use Rattle.records.specs.Writer.{writeRefusal, writeAnswer};
+ghost use Rattle.records.specs.Writer.{freeFrom, writeRefusal, writeAnswer};
 ghost use Rattle.text.specs.device.Calls.{Wrote};
 use crate::record_row::RecordRow;
-use crate::record_row::record_numbers;
+use crate::record_row::field_numbers;
 use crate::record_row::row_fits;
 use crate::refusals::DOES_NOT_FIT;
 use crate::refusals::NO_ROOM;
@@ -20,11 +20,11 @@ pub struct RowWritten {
     pub place: usize,
 }
 
-// How many bytes are free from a place on.
-fn free_from(length: usize, at: usize) -> usize
-    ensures { λ r. ⌜ r ≡ length - at ⌝ }
+// How many of so many bytes are free from a place on.
+fn free_from(long: usize, at: usize) -> usize
+    ensures { λ r. ⌜ r ≡ freeFrom long at ⌝ }
 {
-    if length < at { 0 } else { length - at }
+    if long < at { 0 } else { long - at }
 }
 
 // How many bytes the row needs.
@@ -32,7 +32,7 @@ fn row_needs(x: RecordRow) -> usize
     requires { ⌜ rowFits x ≡ true ⌝ }
     ensures { λ r. ⌜ r ≡ length (recordText x) ⌝ }
 {
-    let numbers = record_numbers(x);
+    let numbers = field_numbers(x);
     line_length(&numbers)
 }
 
@@ -41,7 +41,7 @@ fn put_row(free: &mut [u8], x: RecordRow) -> usize
     requires { ⌜ (rowFits x ≡ true) × (length (recordText x) ≤ length (now free)) ⌝ }
     ensures { λ r. ⌜ Wrote (now (free .entry)) (now (free .exit)) 0 r (recordText x) ⌝ }
 {
-    let numbers = record_numbers(x);
+    let numbers = field_numbers(x);
     put_line(free, &numbers)
 }
 

@@ -1,2 +1,3 @@
 pub mod RelayLaws
 pub mod RefusalLaws
+pub mod OutputLaws

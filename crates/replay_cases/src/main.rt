@@ -20,6 +20,7 @@ fn read_cases() {
 fn main() {
     read_cases();
     room::feeds();
+    room::record_feeds();
     room::ends();
     made_up::row_without_settings();
 }

@@ -15,9 +15,9 @@ fn say_taken(taken: bool) {
 }
 
 // Feeds five bytes to a state that holds `held` bytes.
-fn feed(name: &[u8], held: usize, out: &mut [u8]) {
+fn feed(name: &[u8], form: Form, held: usize, out: &mut [u8]) {
     say(name);
-    let mut state = Replay::fresh(Form::Changes);
+    let mut state = Replay::fresh(form);
     state.cutter.count = held;
     let t = files::feed(state, b"1,200", out);
     say_taken(t.taken);
@@ -33,9 +33,32 @@ pub(crate) fn feeds() {
     let mut five = [7u8; 5];
     let mut four = [7u8; 4];
     let mut large = [7u8; 100];
-    feed(b"a portion of 5 bytes, room for 5", 0, &mut five);
-    feed(b"a portion of 5 bytes, room for 4", 0, &mut four);
-    feed(b"a state that holds 46 bytes", LONGEST_LINE + 1, &mut large);
+    feed(
+        b"a portion of 5 bytes, room for 5",
+        Form::Changes,
+        0,
+        &mut five,
+    );
+    feed(
+        b"a portion of 5 bytes, room for 4",
+        Form::Changes,
+        0,
+        &mut four,
+    );
+    feed(
+        b"a state that holds 46 bytes",
+        Form::Changes,
+        LONGEST_LINE + 1,
+        &mut large,
+    );
+}
+
+// The record needs five times as much.
+pub(crate) fn record_feeds() {
+    let mut enough = [7u8; 25];
+    let mut short = [7u8; 24];
+    feed(b"for the record, room for 25", Form::Record, 0, &mut enough);
+    feed(b"for the record, room for 24", Form::Record, 0, &mut short);
 }
 
 pub(crate) fn ends() {

@@ -7,7 +7,8 @@ use files::Replay;
 ghost use mathlib.Core.Path.{_≡_};
 ghost use Prim.Native.Nat.{_≤_};
 ghost use lib.ListN.{length};
-ghost use Rattle.files.specs.Replay.{longestLine, freshReplay, portionRoom, fedBy, Reached};
+ghost use lib.Seq.{sets};
+ghost use Rattle.files.specs.Replay.{longestLine, freshReplay, portionRoom, fedBy, writes, Reached};
 ghost use Rattle.files.specs.device.Calls.{Sound};
 
 // The state after the input, and whether a call of the system failed.
@@ -29,10 +30,11 @@ const PORTION: usize = 65536;
 // Room for all that a portion writes, whatever the form and whatever the state holds.
 const ROOM: usize = RECORD_SPREAD * (LONGEST_LINE + PORTION);
 
-// Every portion is taken.
+// Every portion is taken: what it writes stands at the front of `out`.
 fn take_portion(state: Replay, portion: &[u8], out: &mut [u8]) -> Fed
     requires { ⌜ (Sound state) × (portionRoom (state .form) longestLine (length (now portion)) ≤ length (now out)) ⌝ }
     ensures fed { λ r. ⌜ r ≡ fedBy state (now (portion .entry)) ⌝ }
+    ensures output { λ _. ⌜ now (out .exit) ≡ sets (now (out .entry)) 0 (writes state (now (portion .entry))) ⌝ }
     ensures within { λ r. ⌜ r .written ≤ length (now (out .exit)) ⌝ }
 {
     files::feed(state, portion, out)

@@ -1,10 +1,29 @@
-// Why a recording was refused, in words on standard error.
+// Why a recording was refused, in one line on standard error.
 ghost use mathlib.Core.Path.{_≡_};
 ghost use Rattle.files.specs.Replay.{refusalAtEnd};
 use crate::words::say_refusal;
+use files::END_ROOM;
+use files::Form;
 use files::Replay;
 use program::say;
 use program::say_number;
+
+// The end line without its LF.
+fn say_end(state: Replay) {
+    let mut out = [0u8; END_ROOM];
+    let w = files::finish(state, &mut out);
+    say(&out[..w - 1]);
+    say(b": ");
+}
+
+// The record has no end line on standard output: it begins what is said.
+fn say_end_of_record(state: Replay) {
+    let form = state.form;
+    match form {
+        Form::Changes => {}
+        Form::Record => say_end(state),
+    }
+}
 
 // The line that was refused: the settings that a replay holds pass their check once a settings line was accepted.
 fn say_place(state: Replay) {
@@ -17,7 +36,7 @@ fn say_place(state: Replay) {
     say_number(progress.done as u64 + 1);
 }
 
-// Ends the line that tells of a refusal, and says nothing where nothing was refused; answers the refusal's number.
+// Says nothing where nothing was refused; answers the refusal's number.
 pub fn tell(state: Replay) -> u32
     ensures { λ r. ⌜ r ≡ refusalAtEnd state ⌝ }
 {
@@ -25,6 +44,7 @@ pub fn tell(state: Replay) -> u32
     if refusal == 0 {
         return refusal;
     }
+    say_end_of_record(state);
     say_place(state);
     say(b" is refused with ");
     say_number(refusal as u64);

@@ -1,4 +1,4 @@
-// What each refusal number means, for a person.
+// What each refusal number of a replay means, for a person. Each answers how many bytes were taken.
 use program::say;
 
 // The settings' numbers, 1 to 7.
@@ -14,34 +14,13 @@ fn say_setting(refusal: u32) -> usize {
     }
 }
 
-// The states' and slices' numbers, 8 to 11.
-fn say_call(refusal: u32) -> usize {
-    match refusal {
-        8 => say(b"a state isn't valid"),
-        9 => say(b"the jump is over 3,600,000 ticks"),
-        10 => say(b"the lengths differ in ticks"),
-        _ => say(b"the batch is longer than 60,000 ticks"),
-    }
-}
-
-// The lines', timers' and record's numbers, 12 to 17.
-fn say_line(refusal: u32) -> usize {
-    match refusal {
-        12 => say(b"the line has the wrong shape"),
-        13 => say(b"the row number isn't one more than the last (the first is 1)"),
-        14 => say(b"the block field isn't 0 or 1"),
-        15 => say(b"the timer delay is over 60,000"),
-        16 => say(b"the buffer has too little room for the row"),
-        _ => say(b"the row's number is 0 or over 999,999, or a current over 9,999,999"),
-    }
-}
-
 // In the words of document 01's table.
 pub(crate) fn say_refusal(refusal: u32) -> usize {
     match refusal {
         1..=7 => say_setting(refusal),
-        8..=11 => say_call(refusal),
-        12..=17 => say_line(refusal),
+        12 => say(b"the line has the wrong shape"),
+        13 => say(b"the row number isn't one more than the last (the first is 1)"),
+        14 => say(b"the block field isn't 0 or 1"),
         _ => say(b"the number has no words"),
     }
 }

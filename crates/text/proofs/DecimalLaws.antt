@@ -63,8 +63,8 @@ value-decimal (suc n) v =
     (λ e. value-one v)
     (λ e. rw (value-snoc 0 (decimalIn n (v / 10)) (48 + v % 10), value-decimal n (v / 10)) (omega arith))
 
-pub decimal-back : (v : ℕ) → v < 10000000000 → valueOf (decimal v) ≡ v
-decimal-back v h = value-decimal 9 v
+pub decimal-back : (v : ℕ) → valueOf (decimal v) ≡ v
+decimal-back v = value-decimal 9 v
 
 -- ---- stores one after the other
 

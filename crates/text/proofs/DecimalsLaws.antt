@@ -14,7 +14,7 @@ use Rattle.text.specs.Line.{cr, lf, comma, fitsIn, rightShape, valuesOf,
 use Rattle.text.specs.Decimals.{decimals, lineOf}
 use Rattle.text.specs.device.Calls.{Wrote}
 use Rattle.text.proofs.StoreLaws.{sets-append}
-use Rattle.text.proofs.DecimalLaws.{decimal-length, value-decimal}
+use Rattle.text.proofs.DecimalLaws.{decimal-length, decimal-back}
 use Rattle.text.proofs.ScanLaws.{fieldCloser, total, closer-suc}
 use Rattle.text.proofs.ShapeLaws.{closeOf, closing, closing-written, shape-most, written-right, written-numbers}
 
@@ -114,7 +114,7 @@ line-longest ns some = rw (← from-first ns some) (closing-longest ns)
 
 values-back : (ns : List ℕ) → valuesOf (decimals ns) ≡ ns
 values-back [] = refl
-values-back (n ∷ ns) = rw (value-decimal 9 n, values-back ns)
+values-back (n ∷ ns) = rw (decimal-back n, values-back ns)
 
 pub line-shaped : (ws ns : List ℕ) → 1 ≤ length ws → fitsIn ws (decimals ns) ≡ true → rightShape ws (lineOf ns) ≡ true
 line-shaped [] ns some fits = absurd (omega arith)

@@ -23,7 +23,7 @@ use Rattle.files.specs.Replay.{lineLimit, writes, portionRoom, fedBy}
 abbrev pub notedOf : Progress → List ℕ → ℕ → Noted
 notedOf p w at = record { progress = p; written = at + length w }
 
--- the row after `done` rows can be noted: its numbers have as many digits as they may, and the output has room
+-- the row after `done` rows can be noted: none of its numbers is too large, and the output has room
 pub record Notable (form : Form) (done : ℕ) (x : Row) (at room : ℕ) : Type 0 where
   pub number : done < lastRow
   pub first : x .l1 ≤ largestCurrent

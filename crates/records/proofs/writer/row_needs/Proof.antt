@@ -5,8 +5,8 @@ use borrow.Author.Needs.{needs}
 use Rattle.records.proofs.writer.row_needs.Statement.{statement}
 use Rattle.records.proofs.writer.row_needs.Tie as tie
 
-record-numbers-requires : tie.Need-record-numbers-requires
-record-numbers-requires c κs = search needs
+field-numbers-requires : tie.Need-field-numbers-requires
+field-numbers-requires c κs = search needs
 
 slice-aggregate-line-length : tie.Need-slice-aggregate-line-length
 slice-aggregate-line-length c = search needs
@@ -16,9 +16,9 @@ line-length-requires c κs = search needs
 
 returns : tie.Need-returns
 unfolding recordText
-returns c = rw (c .line-length .ensures, c .before .before .record-numbers .ensures)
+returns c = rw (c .line-length .ensures, c .before .before .field-numbers .ensures)
 
 pub row-needs-spec : {M : Type 1} → statement M
 row-needs-spec =
     tie.close
-    (tie.spec record-numbers-requires slice-aggregate-line-length line-length-requires returns)
+    (tie.spec field-numbers-requires slice-aggregate-line-length line-length-requires returns)

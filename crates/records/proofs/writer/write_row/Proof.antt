@@ -1,9 +1,7 @@
 -- `records::writer::write_row` meets its contract: a refused row writes nothing; an accepted one has the free part lent, and what
 -- stands at its front stands at the place.
 -- Assumes nothing.
-use mathlib.Core.Path.{_≡_, sym, ap, _∙_}
-use mathlib.Core.List.{List}
-use Prim.Native.Nat.{ℕ}
+use mathlib.Core.Path.{sym, ap, _∙_}
 use native.Mathlib.Omega.{arith}
 use lib.ListN.{length, length-take, length-drop}
 use Rattle.text.proofs.StoreLaws.{sets-free}
@@ -33,10 +31,7 @@ sub-put-row c =
     omega (arith, accepted-place (a .x) (free .result) (length (a .out .now)) (a .at) (free .ensures) (sym (c .before .write-refusal .ensures) ∙ c .if1 .left))
 
 part-put-row-start : tie.Need-part-put-row-start
-part-put-row-start c =
-    let a = c .before .before .before .before .args in
-    let free = c .before .before .free-from in
-    omega (arith, accepted-place (a .x) (free .result) (length (a .out .now)) (a .at) (free .ensures) (sym (c .before .write-refusal .ensures) ∙ c .if1 .left))
+part-put-row-start c = sub-put-row c
 
 part-put-row-end : tie.Need-part-put-row-end
 part-put-row-end c = search needs

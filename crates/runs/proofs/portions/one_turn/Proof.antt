@@ -39,7 +39,7 @@ array-share-prefix-out c = search needs
 
 slice-aggregate-write-out : tie.Need-slice-aggregate-write-out
 slice-aggregate-write-out c =
-    let (fed, within) = c .before .before .take-portion .ensures in
+    let (fed, (output, within)) = c .before .before .take-portion .ensures in
     simp length-take (omega (arith, within))
 
 write-out-requires : tie.Need-write-out-requires

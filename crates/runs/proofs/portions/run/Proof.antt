@@ -1,6 +1,5 @@
 -- `runs::portions::run` meets its contract and ends: each turn reaches a state from the one before.
 -- Assumes nothing.
-use mathlib.Core.Path.{_≡_}
 use borrow.Author.Needs.{needs}
 use Rattle.files.specs.Replay.{Reached}
 use Rattle.files.specs.device.Calls.{Sound}

@@ -1,12 +1,12 @@
--- `records::record_row::record_numbers` meets its contract: the numbers fit, so that the timestamp does.
+-- `records::record_row::field_numbers` meets its contract: the numbers fit, so that the timestamp does.
 -- Assumes nothing.
 use mathlib.Core.Path.{_≡_}
 use Prim.Native.Nat.{ℕ, _/_}
 use native.Mathlib.Omega.{arith}
 use borrow.Author.Needs.{needs}
 use Rattle.records.proofs.WriterLaws.{fits}
-use Rattle.records.proofs.record_row.record_numbers.Statement.{statement}
-use Rattle.records.proofs.record_row.record_numbers.Tie as tie
+use Rattle.records.proofs.record_row.field_numbers.Statement.{statement}
+use Rattle.records.proofs.record_row.field_numbers.Tie as tie
 
 cast-b : tie.Need-cast-b
 cast-b c = search needs
@@ -23,5 +23,5 @@ whole n = omega arith
 returns : tie.Need-returns
 returns c = rw whole
 
-pub record-numbers-spec : {M : Type 1} → statement M
-record-numbers-spec = tie.close (tie.spec cast-b sub-t3 mul-t4 returns)
+pub field-numbers-spec : {M : Type 1} → statement M
+field-numbers-spec = tie.close (tie.spec cast-b sub-t3 mul-t4 returns)
