@@ -44,7 +44,8 @@ enum oc_operation {
  * Refusal numbers. Where several apply to a call, the lowest is given.
  *
  * oc_check_settings gives 0 to 7; oc_batch gives any of these. The other
- * numbers of document 01 belong to calls that the archive does not export.
+ * numbers, 9, 12, 13, 15 and the record's 16 and 17, belong to calls that the
+ * archive does not export; docs/FORMATS.md has them all.
  */
 enum oc_refusal {
     OC_ACCEPTED = 0,
@@ -78,7 +79,7 @@ enum oc_refusal {
     OC_BAD_BLOCK = 14 /* a block byte, the last one included, is not 0 or 1 */
 };
 
-/* One tick's output byte. */
+/* One tick's output byte. The eight status fields of a row of the record are these bits, in this order. */
 enum oc_output {
     OC_START_L1 = 1,
     OC_START_L2 = 2,

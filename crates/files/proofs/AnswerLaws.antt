@@ -26,10 +26,14 @@ held-less : (form : Form) (held read room : ℕ) → held < lineLimit → portio
 held-less Changes held read room h k = omega arith
 held-less Record held read room h k = omega arith
 
--- room for the record suffices for either form
-pub room-for-any : (form : Form) (read most : ℕ) → read ≤ most → portionRoom form longestLine read ≤ portionRoom Record longestLine most
-room-for-any Changes read most h = omega arith
-room-for-any Record read most h = omega arith
+-- nor does a smaller portion; and room for the record suffices for either form
+pub read-less : (form : Form) (held read most room : ℕ) → read ≤ most → portionRoom form held most ≤ room → portionRoom form held read ≤ room
+read-less Changes held read most room h k = omega arith
+read-less Record held read most room h k = omega arith
+
+pub room-for-any : (form : Form) (held read : ℕ) → portionRoom form held read ≤ portionRoom Record held read
+room-for-any Changes held read = omega arith
+room-for-any Record held read = omega arith
 
 -- the code divides the room in place of multiplying the bytes
 pub input-room : (form : Form) (bytes room : ℕ) → leb bytes (room / spread form) ≡ leb (spread form * bytes) room

@@ -40,14 +40,12 @@ fn take_portion(state: Replay, portion: &[u8], out: &mut [u8]) -> Fed
     files::feed(state, portion, out)
 }
 
-// Reads a portion of at most 64 KiB and writes what it gives.
-fn one_turn(state: Replay) -> Turn
-    requires { ⌜ Sound state ⌝ }
+// Reads a portion into lent memory and writes what it gives. The memory is lent, since to make it anew at each turn is dear.
+fn one_turn(state: Replay, portion: &mut [u8], out: &mut [u8]) -> Turn
+    requires { ⌜ (Sound state) × (portionRoom (state .form) longestLine (length (now portion)) ≤ length (now out)) ⌝ }
     ensures { λ r. ⌜ Reached state (r .state) ⌝ }
 {
-    let mut portion = [0u8; PORTION];
-    let mut out = [0u8; ROOM];
-    let got = program::read_portion(&mut portion);
+    let got = program::read_portion(portion);
     let n = got.count;
     if n == 0 {
         return Turn {
@@ -56,7 +54,7 @@ fn one_turn(state: Replay) -> Turn
             failed: got.failed,
         };
     }
-    let t = take_portion(state, &portion[..n], &mut out);
+    let t = take_portion(state, &portion[..n], out);
     let w = t.written;
     let put = program::write_out(&out[..w]);
     let after = t.state;
@@ -74,10 +72,12 @@ pub fn run(form: Form) -> Ended
     ensures { λ r. ⌜ Reached (freshReplay form) (r .state) ⌝ }
 {
     let mut state = Replay::fresh(form);
+    let mut portion = [0u8; PORTION];
+    let mut out = [0u8; ROOM];
     // A function must be seen to end. No input has so many portions.
     let mut portions = u64::MAX;
     while portions > 0 {
-        let t = one_turn(state);
+        let t = one_turn(state, &mut portion, &mut out);
         let after = t.state;
         state = after;
         if t.failed {
