@@ -17,7 +17,7 @@ use Rattle.files.specs.Output.{spread, endRoom}
 use Rattle.files.specs.Replay.{Told, writtenFirst, toldOf, replayOf, recordOf, longestLine, lineLimit, freshReplay, portionRoom, fed, writes, takes, fedBy, fedIf, feedAnswer, writesIf, feedWrites, endsWith, finishIf, finishWrites}
 use Rattle.files.specs.device.Calls.{Sound}
 use Rattle.checks.proofs.Tests.{both-true, leb-iff}
-use Rattle.files.proofs.PortionLaws.{fed-sound, fresh-sound, feedAll, told-of-portions}
+use Rattle.files.proofs.PortionLaws.{fed-sound, fresh-sound, toldByPortions, told-of-portions}
 
 -- ---- feeding
 
@@ -105,8 +105,8 @@ unfoldable pub roomFor : Form → List (List ℕ) → ℕ → Bool
 roomFor form [] room = true
 roomFor form (p ∷ ps) room = leb (portionRoom form longestLine (length p)) room && roomFor form ps room
 
-handed-fed : (r : Replay) (ps : List (List ℕ)) (room : ℕ) → Sound r → endRoom ≤ room → roomFor (r .form) ps room ≡ true → handedOut r ps room ≡ feedAll r ps
-unfolding handedOut roomFor feedAll finishIf
+handed-fed : (r : Replay) (ps : List (List ℕ)) (room : ℕ) → Sound r → endRoom ≤ room → roomFor (r .form) ps room ≡ true → handedOut r ps room ≡ toldByPortions r ps
+unfolding handedOut roomFor toldByPortions finishIf
 handed-fed r [] room h k e = rw (le-leb endRoom room k)
 handed-fed r (p ∷ ps) room h k e =
     let here = leb (portionRoom (r .form) longestLine (length p)) room in
@@ -123,6 +123,7 @@ pub replay-of-calls : (ps : List (List ℕ)) (room : ℕ) → endRoom ≤ room �
     → let x : Told = handedOut (freshReplay Changes) ps room in x .notes ++ x .end ≡ replayOf (joined ps)
 replay-of-calls ps room k e = ap (λ (x : Told). x .notes ++ x .end) (told-of-calls Changes ps room k e)
 
--- WHAT A VIEWER RELIES ON: whatever the portions, what they write is the record of the whole input
+-- WHAT A VIEWER RELIES ON: whatever the portions, what the calls hand out before the end is the record of the whole input (the
+-- end is asked for too, as in the replay)
 pub record-of-calls : (ps : List (List ℕ)) (room : ℕ) → endRoom ≤ room → roomFor Record ps room ≡ true → handedOut (freshReplay Record) ps room .notes ≡ recordOf (joined ps)
 record-of-calls ps room k e = ap (λ (x : Told). x .notes) (told-of-calls Record ps room k e)

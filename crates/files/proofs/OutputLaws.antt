@@ -48,8 +48,8 @@ end-short done refusal = omega (arith, pair-length done refusal, decimal-length 
 
 -- ---- a row of the record
 
-record-fits : (done : ℕ) (x : Row) (outputs at room : ℕ) → Notable Record done x at room → Fits (recordRow (done + 1) x outputs)
-record-fits done x outputs at room h =
+noted-fits : (done : ℕ) (x : Row) (outputs at room : ℕ) → Notable Record done x at room → Fits (recordRow (done + 1) x outputs)
+noted-fits done x outputs at room h =
     record { some = omega arith; most = omega (arith, h .number); first = h .first; second = h .second; third = h .third }
 
 -- what its writer answered
@@ -58,7 +58,7 @@ pub record-written : (done : ℕ) (x : Row) (outputs at : ℕ) (out after : List
     → WroteWithin longestRecord out after at (r .place) (recordText (recordRow (done + 1) x outputs))
 record-written done x outputs at out after r h e =
     let row = recordRow (done + 1) x outputs in
-    let f = record-fits done x outputs at (length out) h in
+    let f = noted-fits done x outputs at (length out) h in
     let w = e ∙ write-fits out at row f (h .free) in
     let place : r .place ≡ at + length (recordText row) = ap (λ (a : WriteAnswer). a .answer .place) w in
     record {

@@ -112,17 +112,17 @@ module _ (r : Replay) (h : Sound r) where
 
 -- ---- portions, one after the other, and then the end
 
-unfoldable pub feedAll : Replay → List (List ℕ) → Told
-feedAll r [] = endAlone (lastProgress r)
-feedAll r (p ∷ ps) = writtenFirst (writes r p) (feedAll (fed r p) ps)
+unfoldable pub toldByPortions : Replay → List (List ℕ) → Told
+toldByPortions r [] = endAlone (lastProgress r)
+toldByPortions r (p ∷ ps) = writtenFirst (writes r p) (toldByPortions (fed r p) ps)
 
-portions-left : (r : Replay) (ps : List (List ℕ)) → Sound r → feedAll r ps ≡ left r (joined ps)
-unfolding feedAll
+portions-left : (r : Replay) (ps : List (List ℕ)) → Sound r → toldByPortions r ps ≡ left r (joined ps)
+unfolding toldByPortions
 portions-left r [] h = rw joined-none (sym (left-end r h))
 portions-left r (p ∷ ps) h = rw (joined-more p ps, portions-left (fed r p) ps (fed-sound r p h)) (sym (left-fed r p (joined ps) h))
 
 -- WHAT IS WRITTEN DOES NOT DEPEND ON THE PORTIONS: for any cutting of the input it is what the whole input gives
-pub told-of-portions : (form : Form) (ps : List (List ℕ)) → feedAll (freshReplay form) ps ≡ toldOf form (joined ps)
+pub told-of-portions : (form : Form) (ps : List (List ℕ)) → toldByPortions (freshReplay form) ps ≡ toldOf form (joined ps)
 unfolding toldOf left
 told-of-portions form ps = portions-left (freshReplay form) ps (fresh-sound form)
 
@@ -138,7 +138,7 @@ module _ (r : Replay) (n : ℕ) (e : r .progress .stage ≡ Stopped n) where
   stopped-if true = ap endAlone (refuse-stopped (r .progress .stage) (r .progress) n e)
   stopped-if false = refl
 
-  pub stop-early : (ps : List (List ℕ)) → Sound r → feedAll r ps ≡ endAlone (lastProgress r)
+  pub stop-early : (ps : List (List ℕ)) → Sound r → toldByPortions r ps ≡ endAlone (lastProgress r)
   unfolding left
   stop-early ps h =
       portions-left r ps h ∙ stopped-ends (r .form) (r .progress) n (linesFrom CrLf (heldLine (r .cutter)) (joined ps)) e ∙ sym (stopped-if (ltb 0 (r .cutter .count)))

@@ -1,8 +1,9 @@
-// Bytes to standard output and standard error. No contract can say what reaches a file: these say how many bytes were taken.
+// Bytes to standard output and standard error. No contract can say what reaches a file: these say that no more bytes are
+// answered as taken than were lent.
 ghost use Prim.Native.Nat.{_+_, _≤_};
 ghost use lib.ListN.{length};
 ghost use Rattle.io.specs.Counts.{Counts};
-ghost use Rattle.program.specs.Said.{NumberSaid};
+ghost use Rattle.program.specs.Output.{NumberSaid};
 use crate::failure::say_failure;
 use libc::EINTR;
 use libc::STDERR_FILENO;

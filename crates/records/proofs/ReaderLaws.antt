@@ -56,8 +56,8 @@ module _ (s : List ℕ) (last : ℕ) where
       record-at : (k : ℕ) → k < length recordWidths → getD (r .numbers) k 0 ≡ getD (numbersOf s) k 0
       record-at = read-at recordWidths statusRefusal s last (omega arith) (omega arith) r e t
 
-      pub record-fits : (k : ℕ) → k < length recordWidths → getD (r .numbers) k 0 < 10 ^ getD recordWidths k 0
-      record-fits = read-fits recordWidths statusRefusal s last (omega arith) (omega arith) r e t
+      pub field-fits : (k : ℕ) → k < length recordWidths → getD (r .numbers) k 0 < 10 ^ getD recordWidths k 0
+      field-fits = read-fits recordWidths statusRefusal s last (omega arith) (omega arith) r e t
 
       record-status : statusIn (r .numbers) ≡ statusIn (numbersOf s)
       record-status =

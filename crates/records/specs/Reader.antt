@@ -20,10 +20,11 @@ recordWidths = 6 ∷ 10 ∷ 7 ∷ 7 ∷ 7 ∷ 1 ∷ 1 ∷ 1 ∷ 1 ∷ 1 ∷ 1 �
 abbrev pub longestRead : ℕ
 longestRead = 59
 
+-- "the eight": the fields after the third current
 abbrev pub statusIn : List ℕ → List ℕ
 statusIn ns = take 8 (drop 5 ns)
 
--- "The timestamp is read and ignored."
+-- as 01's: "The timestamp is read and ignored."
 abbrev pub recordIn : List ℕ → RecordRow
 recordIn ns = record {
   number = getD ns 0 0;

@@ -9,7 +9,7 @@ use Rattle.text.specs.Decimals.{lineOf}
 use Rattle.records.specs.declared.record_row.RecordRow.{RecordRow}
 use Rattle.records.specs.Status.{statusOf}
 
--- not: "row number 0 or over 999,999, or a current over 9,999,999"
+-- none of: "row number 0 or over 999,999, or a current over 9,999,999"
 abbrev pub rowFits : RecordRow → Bool
 rowFits x = inRange 1 lastRow (x .number) && (leb (x .l1) largestCurrent && (leb (x .l2) largestCurrent && leb (x .l3) largestCurrent))
 

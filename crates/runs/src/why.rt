@@ -36,7 +36,7 @@ fn say_place(state: Replay) {
     say_number(progress.done as u64 + 1);
 }
 
-// Says nothing where nothing was refused; answers the refusal's number.
+// Says nothing where nothing was refused. Answers the refusal's number, which is all that a contract can say of it.
 pub fn tell(state: Replay) -> u32
     ensures { λ r. ⌜ r ≡ refusalAtEnd state ⌝ }
 {

@@ -6,7 +6,7 @@ use lib.ListN.{length, getD}
 use borrow.Author.Tests.{not-true, not-false}
 use Rattle.text.proofs.LineLaws.{line-room}
 use Rattle.records.specs.Reader.{recordWidths}
-use Rattle.records.proofs.ReaderLaws.{record-readable, record-told, record-shape, record-number, record-fits, record-wrong-status, record-accepted}
+use Rattle.records.proofs.ReaderLaws.{record-readable, record-told, record-shape, record-number, field-fits, record-wrong-status, record-accepted}
 use borrow.Author.Needs.{needs}
 use Rattle.records.proofs.reader.read_record_row.Statement.{statement}
 use Rattle.records.proofs.reader.read_record_row.Tie as tie
@@ -67,7 +67,7 @@ fits : (c : lts.Else3 (line.Asked, line.Learnt, status.Asked, status.Learnt) rea
 fits c =
     let a = c .before .before .before .before .before .before .before .before .before .before .before .before .args in
     let l = c .before .before .before .before .before .before .before .before .before .read-line in
-    record-fits (a .row .now) (a .last) (l .result) (l .ensures) (not-false (l .result .right) (c .before .before .before .before .before .before .before .if1 .left))
+    field-fits (a .row .now) (a .last) (l .result) (l .ensures) (not-false (l .result .right) (c .before .before .before .before .before .before .before .if1 .left))
 
 array-read-t12 : tie.Need-array-read-t12
 array-read-t12 c = search needs

@@ -1,9 +1,9 @@
--- What the program's outputs answer: how many of the bytes were taken.
+-- What the writing of a number answers.
 use Prim.Native.Nat.{ℕ}
 use Rattle.io.specs.Counts.{Counts}
 use Rattle.io.specs.Digits.{digits, Fewest}
 
--- a number was said in the fewest decimal digits that hold it, and so many of them were taken
+-- so many bytes are no more than the fewest decimal digits that hold n
 pub record NumberSaid (n taken : ℕ) : Type 0 where
   pub count : ℕ
   pub fewest : Fewest 10 1 n count
