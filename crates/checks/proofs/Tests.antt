@@ -1,11 +1,14 @@
--- Tests on numbers: two joined, one for another, and a range.
+-- Tests on numbers: two joined, one for another, a range, and numbers that are each 0 or 1.
 -- Assumes nothing.
-use Prim.Native.Nat.{ℕ, _≤_, _<_}
+use Prim.Native.Nat.{ℕ, zero, suc, _≤_, _<_}
+use native.Mathlib.Omega.{arith}
+use mathlib.Core.List.{List, [], _∷_}
 use mathlib.Core.Bool.{Bool, true, false, _&&_, and-false, false≢true}
 use mathlib.Core.Path.{_≡_, refl}
 use borrow.Author.Tests.{leb-true, le-leb, lt-leb}
 use lib.Dec.{leb}
-use Rattle.checks.specs.Range.{inRange}
+use lib.ListN.{length, getD}
+use Rattle.checks.specs.Range.{inRange, allBits}
 use Rattle.checks.proofs.Cases.{same-test}
 
 pub both-true : (a b : Bool) → a && b ≡ true → (a ≡ true) × (b ≡ true)
@@ -32,3 +35,9 @@ below-range low high n h = rw (lt-leb low n h)
 
 pub above-range : (low high n : ℕ) → high < n → inRange low high n ≡ false
 above-range low high n h = rw (lt-leb n high h, and-false (leb low n))
+
+pub bit-at : (bs : List ℕ) (k : ℕ) → allBits bs ≡ true → k < length bs → getD bs k 0 ≤ 1
+unfolding allBits
+bit-at [] k e h = absurd (omega arith)
+bit-at (b ∷ bs) zero e h = leb-true b 1 (both-true (leb b 1) (allBits bs) e .0)
+bit-at (b ∷ bs) (suc k) e h = bit-at bs k (both-true (leb b 1) (allBits bs) e .1) (omega arith)

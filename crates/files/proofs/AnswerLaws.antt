@@ -95,35 +95,43 @@ module _ (r : Replay) (room : ℕ) where
 
 -- ---- all calls together
 
--- what the calls hand out, one after the other: a portion each, with an output of `room` bytes, and then the end
-unfoldable pub handedOut : Replay → List (List ℕ) → ℕ → Told
-handedOut r [] room = record { notes = []; end = finishWrites r room }
-handedOut r (p ∷ ps) room = writtenFirst (feedWrites r p room) (handedOut (feedAnswer r p room .state) ps room)
+-- what the calls hand out, one after the other: a portion each, with an output of `room` bytes, and then the end, with one of
+-- `last`
+unfoldable pub handedOut : Replay → List (List ℕ) → ℕ → ℕ → Told
+handedOut r [] room last = record { notes = []; end = finishWrites r last }
+handedOut r (p ∷ ps) room last = writtenFirst (feedWrites r p room) (handedOut (feedAnswer r p room .state) ps room last)
 
 -- the output has room for each portion and what a state may hold
 unfoldable pub roomFor : Form → List (List ℕ) → ℕ → Bool
 roomFor form [] room = true
 roomFor form (p ∷ ps) room = leb (portionRoom form longestLine (length p)) room && roomFor form ps room
 
-handed-fed : (r : Replay) (ps : List (List ℕ)) (room : ℕ) → Sound r → endRoom ≤ room → roomFor (r .form) ps room ≡ true → handedOut r ps room ≡ toldByPortions r ps
-unfolding handedOut roomFor toldByPortions finishIf
-handed-fed r [] room h k e = rw (le-leb endRoom room k)
-handed-fed r (p ∷ ps) room h k e =
-    let here = leb (portionRoom (r .form) longestLine (length p)) room in
-    let m = leb-true (portionRoom (r .form) longestLine (length p)) room (both-true here (roomFor (r .form) ps room) e .0) in
-    let t : takes (r .form) (r .cutter .count) (length p) room ≡ true = sound-takes r p room h (held-less (r .form) (r .cutter .count) (length p) room (h .short) m) in
-    let q : feedAnswer r p room .state ≡ fed r p = ap (λ (x : Fed). x .state) (taken-answer r p room t) in
-    rw (taken-writes r p room t, q) (ap (writtenFirst (writes r p)) (handed-fed (fed r p) ps room (fed-sound r p h) k (rw (fed-form r p) (both-true here (roomFor (r .form) ps room) e .1))))
+module _ (room last : ℕ) (k : endRoom ≤ last) where
+  handed-fed : (r : Replay) (ps : List (List ℕ)) → Sound r → roomFor (r .form) ps room ≡ true → handedOut r ps room last ≡ toldByPortions r ps
+  unfolding handedOut roomFor toldByPortions finishIf
+  handed-fed r [] h e = rw (le-leb endRoom last k)
+  handed-fed r (p ∷ ps) h e =
+      let here = leb (portionRoom (r .form) longestLine (length p)) room in
+      let m = leb-true (portionRoom (r .form) longestLine (length p)) room (both-true here (roomFor (r .form) ps room) e .0) in
+      let t : takes (r .form) (r .cutter .count) (length p) room ≡ true = sound-takes r p room h (held-less (r .form) (r .cutter .count) (length p) room (h .short) m) in
+      let q : feedAnswer r p room .state ≡ fed r p = ap (λ (x : Fed). x .state) (taken-answer r p room t) in
+      rw (taken-writes r p room t, q) (ap (writtenFirst (writes r p)) (handed-fed (fed r p) ps (fed-sound r p h) (rw (fed-form r p) (both-true here (roomFor (r .form) ps room) e .1))))
 
-pub told-of-calls : (form : Form) (ps : List (List ℕ)) (room : ℕ) → endRoom ≤ room → roomFor form ps room ≡ true → handedOut (freshReplay form) ps room ≡ toldOf form (joined ps)
-told-of-calls form ps room k e = handed-fed (freshReplay form) ps room (fresh-sound form) k e ∙ told-of-portions form ps
+  pub told-of-calls : (form : Form) (ps : List (List ℕ)) → roomFor form ps room ≡ true → handedOut (freshReplay form) ps room last ≡ toldOf form (joined ps)
+  told-of-calls form ps e = handed-fed (freshReplay form) ps (fresh-sound form) e ∙ told-of-portions form ps
 
--- WHAT A TESTER RELIES ON: whatever the portions, what the calls hand out is the replay of the whole input
-pub replay-of-calls : (ps : List (List ℕ)) (room : ℕ) → endRoom ≤ room → roomFor Changes ps room ≡ true
-    → let x : Told = handedOut (freshReplay Changes) ps room in x .notes ++ x .end ≡ replayOf (joined ps)
-replay-of-calls ps room k e = ap (λ (x : Told). x .notes ++ x .end) (told-of-calls Changes ps room k e)
+  -- WHAT A TESTER RELIES ON: whatever the portions, what the calls hand out is the replay of the whole input
+  pub replay-of-calls : (ps : List (List ℕ)) → roomFor Changes ps room ≡ true
+      → let x : Told = handedOut (freshReplay Changes) ps room last in x .notes ++ x .end ≡ replayOf (joined ps)
+  replay-of-calls ps e = ap (λ (x : Told). x .notes ++ x .end) (told-of-calls Changes ps e)
 
--- WHAT A VIEWER RELIES ON: whatever the portions, what the calls hand out before the end is the record of the whole input (the
--- end is asked for too, as in the replay)
-pub record-of-calls : (ps : List (List ℕ)) (room : ℕ) → endRoom ≤ room → roomFor Record ps room ≡ true → handedOut (freshReplay Record) ps room .notes ≡ recordOf (joined ps)
-record-of-calls ps room k e = ap (λ (x : Told). x .notes) (told-of-calls Record ps room k e)
+-- what comes before the end does not depend on the end's room
+notes-alone : (r : Replay) (ps : List (List ℕ)) (room a b : ℕ) → handedOut r ps room a .notes ≡ handedOut r ps room b .notes
+unfolding handedOut
+notes-alone r [] room a b = refl
+notes-alone r (p ∷ ps) room a b = ap (λ (w : List ℕ). feedWrites r p room ++ w) (notes-alone (feedAnswer r p room .state) ps room a b)
+
+-- WHAT A VIEWER RELIES ON: whatever the portions, what the calls hand out before the end is the record of the whole input
+pub record-of-calls : (ps : List (List ℕ)) (room last : ℕ) → roomFor Record ps room ≡ true → handedOut (freshReplay Record) ps room last .notes ≡ recordOf (joined ps)
+record-of-calls ps room last e =
+    notes-alone (freshReplay Record) ps room last endRoom ∙ ap (λ (x : Told). x .notes) (told-of-calls room endRoom (omega arith) Record ps e)

@@ -2,32 +2,29 @@
 -- Assumes nothing.
 use mathlib.Core.Path.{_≡_, refl, sym, _∙_}
 use mathlib.Core.Bool.{true}
-use mathlib.Core.List.{List, [], _∷_, _++_, append-assoc}
-use Prim.Native.Nat.{ℕ, suc, _+_, _-_, _/_, _%_, _^_, _≤_, _<_}
+use mathlib.Core.List.{List, _∷_, _++_, append-assoc}
+use Prim.Native.Nat.{ℕ, suc, _+_, _-_, _^_, _≤_, _<_}
 use native.Mathlib.Omega.{arith}
-use lib.ListN.{length, take, drop, length-take}
+use lib.ListN.{length, take, drop, replicate, length-take}
 use lib.Seq.{sets-eq, drop-at, take-append-seam}
 use Rattle.rows.specs.Row.{lastRow, largestCurrent}
 use Rattle.text.specs.Number.{decimalIn}
 use Rattle.text.specs.Line.{rightShape, numbersOf, fitsIn, spelled}
 use Rattle.text.specs.Decimals.{decimals}
 use Rattle.rows.proofs.NumberedLaws.{numbered-rest, numbered-passed}
-use Rattle.text.proofs.ShapeLaws.{shape-most, fits-none, fits-decimal}
+use Rattle.text.proofs.ShapeLaws.{shape-most, fits-decimal}
 use Rattle.text.proofs.DecimalsLaws.{line-shaped, line-numbers, line-most}
 use Rattle.records.specs.declared.record_row.RecordRow.{RecordRow}
 use Rattle.records.specs.declared.reader.RecordRead.the-variants.{Accepted}
 use Rattle.records.specs.RecordRow.{rowFits, timestamp, fieldNumbers, recordText, longestRecord}
 use Rattle.records.specs.Writer.{writeRefusal, freeFrom, writtenAt, WriteAnswer, writeAnswer}
 use Rattle.records.specs.Reader.{recordWidths, longestRead, statusRefusal, recordRefusal, recordAnswer}
-use Rattle.records.proofs.StatusLaws.{status-bits, status-back}
+use Rattle.records.proofs.StatusLaws.{bits-are, bits-back, bits-fit}
 use Rattle.records.proofs.WriterLaws.{Fits, fits, fits-row, refused-not, accepted-fits, accepted-place, write-accepted, write-number}
 
 module _ (x : RecordRow) (fit : rowFits x ≡ true) where
-  bit : (value : ℕ) (ws : List ℕ) (fs : List (List ℕ)) → fitsIn ws fs ≡ true → fitsIn (1 ∷ ws) (decimals (x .outputs / value % 2 ∷ []) ++ fs) ≡ true
-  bit value ws fs h = fits-decimal 0 (x .outputs / value % 2) ws fs (omega arith) (omega arith) h
-
   -- the fields fit the reader's widths, and a timestamp fewer
-  fields-fit : (w : ℕ) → w ≤ 9 → timestamp (x .number) < 10 ^ suc w → fitsIn (6 ∷ suc w ∷ 7 ∷ 7 ∷ 7 ∷ 1 ∷ 1 ∷ 1 ∷ 1 ∷ 1 ∷ 1 ∷ 1 ∷ 1 ∷ []) (decimals (fieldNumbers x)) ≡ true
+  fields-fit : (w : ℕ) → w ≤ 9 → timestamp (x .number) < 10 ^ suc w → fitsIn (6 ∷ suc w ∷ 7 ∷ 7 ∷ 7 ∷ replicate 8 1) (decimals (fieldNumbers x)) ≡ true
   fields-fit w h k =
       let f = fits x fit in
       fits-decimal 5 (x .number) _ _ (omega arith) (omega (arith, f .most))
@@ -35,7 +32,7 @@ module _ (x : RecordRow) (fit : rowFits x ≡ true) where
       (fits-decimal 6 (x .l1) _ _ (omega arith) (omega (arith, f .first))
       (fits-decimal 6 (x .l2) _ _ (omega arith) (omega (arith, f .second))
       (fits-decimal 6 (x .l3) _ _ (omega arith) (omega (arith, f .third))
-      (bit 1 _ _ (bit 2 _ _ (bit 4 _ _ (bit 8 _ _ (bit 16 _ _ (bit 32 _ _ (bit 64 _ _ (bit 128 _ _ fits-none))))))))))))
+      (bits-fit 8 (x .outputs))))))
 
   pub record-most : length (recordText x) ≤ longestRecord
   unfolding recordText
@@ -58,7 +55,7 @@ module _ (x : RecordRow) (fit : rowFits x ≡ true) where
   text-back byte =
       let next : x .number ≡ x .number - 1 + 1 = omega (arith, fits x fit .some) in
       let told = numbered-rest recordWidths statusRefusal (recordText x) (x .number - 1) record-right (rw numbers-back next) in
-      rw (told, numbers-back, status-bits (x .outputs), status-back (x .outputs) byte)
+      rw (told, numbers-back, bits-are 8 (x .outputs), bits-back 8 (x .outputs) byte)
 
 -- the longest row
 pub most-reached : length (recordText (record { number = lastRow; l1 = largestCurrent; l2 = largestCurrent; l3 = largestCurrent; outputs = 255 })) ≡ longestRecord

@@ -14,12 +14,13 @@ use Rattle.text.proofs.LineLaws.{line-front}
 use Rattle.rows.specs.Refusals.{wrongShape, wrongNumber}
 use Rattle.rows.proofs.AnswerNumbers.{answer-number, answer-refused}
 use Rattle.rows.proofs.NumberedLaws.{read-shape, read-at, read-fits, read-number, read-rest}
+use Rattle.checks.specs.Range.{allBits}
 use Rattle.checks.proofs.Cases.{by-cond}
 use Rattle.records.specs.declared.status.Status.{Status}
 use Rattle.records.specs.declared.reader.RecordRead.{RecordRead}
 use Rattle.records.specs.declared.reader.RecordRead.the-variants.{Accepted, Refused}
 use Rattle.records.specs.Refusals.{wrongStatus}
-use Rattle.records.specs.Status.{allBits, byteOf}
+use Rattle.records.specs.Status.{byteOf}
 use Rattle.records.specs.device.StatusRead.{statusAnswer}
 use Rattle.records.specs.Reader.{recordWidths, statusIn, recordIn, statusRefusal, recordRefusal, recordAnswer, recordNumber}
 

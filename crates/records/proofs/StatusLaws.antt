@@ -1,54 +1,44 @@
--- The status fields: that the bits of a byte give it back, and how far the code has come in reading them.
+-- The status fields: that the bits of a number are bits, give it back and fit their fields, and how far the code has come in
+-- reading them.
 -- Assumes nothing.
-use mathlib.Core.Path.{_≡_}
+use mathlib.Core.Path.{_≡_, refl}
 use mathlib.Core.Bool.{true, false}
-use mathlib.Core.List.{List, [], _∷_}
+use mathlib.Core.List.{List, _∷_}
 use Prim.Native.Nat.{ℕ, zero, suc, _+_, _-_, _*_, _/_, _%_, _^_, _≤_, _<_}
 use native.Mathlib.Nat.{pow-suc, pow-le-pow-right}
 use native.Mathlib.Omega.{arith}
-use lib.Dec.{leb}
-use lib.ListN.{length, getD, drop}
+use lib.ListN.{length, getD, drop, replicate}
 use lib.Seq.{drop-cons, drop-length}
-use borrow.Author.Tests.{le-leb, leb-true}
+use borrow.Author.Tests.{le-leb}
+use Rattle.checks.specs.Range.{allBits}
 use Rattle.checks.proofs.Cases.{not-true}
-use Rattle.checks.proofs.Tests.{both-true}
-use Rattle.records.specs.Status.{statusOf, allBits, byteOf}
+use Rattle.checks.proofs.Tests.{bit-at}
+use Rattle.text.specs.Line.{fitsIn}
+use Rattle.text.specs.Decimals.{decimals}
+use Rattle.text.proofs.ShapeLaws.{fits-none, fits-decimal}
+use Rattle.records.specs.Status.{bitsOf, byteOf}
 use Rattle.records.specs.device.StatusRead.{statusAnswer}
 
 -- ---- writing and reading
 
-pub status-bits : (byte : ℕ) → allBits (statusOf byte) ≡ true
+pub bits-are : (n v : ℕ) → allBits (bitsOf n v) ≡ true
 unfolding allBits
-status-bits byte =
-    rw (
-      le-leb (byte / 1 % 2) 1 (omega arith),
-      le-leb (byte / 2 % 2) 1 (omega arith),
-      le-leb (byte / 4 % 2) 1 (omega arith),
-      le-leb (byte / 8 % 2) 1 (omega arith),
-      le-leb (byte / 16 % 2) 1 (omega arith),
-      le-leb (byte / 32 % 2) 1 (omega arith),
-      le-leb (byte / 64 % 2) 1 (omega arith),
-      le-leb (byte / 128 % 2) 1 (omega arith),
-    )
+bits-are zero v = refl
+bits-are (suc n) v = rw (le-leb (v % 2) 1 (omega arith), bits-are n (v / 2))
 
--- a number by its bits, of which the quotients by 2 have those from the second on
-from-halves : (n h1 h2 h3 h4 h5 h6 b0 b1 b2 b3 b4 b5 b6 b7 : ℕ) → n ≡ b0 + 2 * h1 → h1 ≡ b1 + 2 * h2 → h2 ≡ b2 + 2 * h3 → h3 ≡ b3 + 2 * h4 → h4 ≡ b4 + 2 * h5
-    → h5 ≡ b5 + 2 * h6 → h6 ≡ b6 + 2 * b7 → b0 + 2 * (b1 + 2 * (b2 + 2 * (b3 + 2 * (b4 + 2 * (b5 + 2 * (b6 + 2 * (b7 + 2 * 0))))))) ≡ n
-from-halves n h1 h2 h3 h4 h5 h6 b0 b1 b2 b3 b4 b5 b6 b7 e0 e1 e2 e3 e4 e5 e6 = omega arith
-
-pub status-back : (byte : ℕ) → byte < 256 → byteOf (statusOf byte) ≡ byte
+pub bits-back : (n v : ℕ) → v < 2 ^ n → byteOf (bitsOf n v) ≡ v
 unfolding byteOf
-status-back byte h =
-    from-halves byte (byte / 2) (byte / 4) (byte / 8) (byte / 16) (byte / 32) (byte / 64) (byte / 1 % 2) (byte / 2 % 2) (byte / 4 % 2) (byte / 8 % 2) (byte / 16 % 2) (byte / 32 % 2) (byte / 64 % 2) (byte / 128 % 2)
-    (omega arith) (omega arith) (omega arith) (omega arith) (omega arith) (omega arith) (omega arith)
+bits-back zero v h = omega arith
+bits-back (suc n) v h =
+    let k : v < 2 ^ n * 2 = rw (pow-suc 2 n) at h in
+    rw (bits-back n (v / 2) (omega arith)) (omega arith)
+
+-- as fields of one digit each
+pub bits-fit : (n v : ℕ) → fitsIn (replicate n 1) (decimals (bitsOf n v)) ≡ true
+bits-fit zero v = fits-none
+bits-fit (suc n) v = fits-decimal 0 (v % 2) _ _ (omega arith) (omega arith) (bits-fit n (v / 2))
 
 -- ---- the loop, from the last field to the first
-
-all-at : (bs : List ℕ) (k : ℕ) → k < length bs → allBits bs ≡ true → getD bs k 0 ≤ 1
-unfolding allBits
-all-at [] k h e = absurd (omega arith)
-all-at (b ∷ bs) zero h e = leb-true b 1 (both-true (leb b 1) (allBits bs) e .0)
-all-at (b ∷ bs) (suc k) h e = all-at bs k (omega arith) (both-true (leb b 1) (allBits bs) e .1)
 
 -- the byte of the fields from k on
 pub record StatusTurn (fields : List ℕ) (k byte : ℕ) : Type 0 where
@@ -83,7 +73,7 @@ module _ (fields : List ℕ) (k j byte : ℕ) (turn : StatusTurn fields k byte) 
       }
 
   pub turn-wrong : 1 < getD fields j 0 → record { right = false; byte = 0 } ≡ statusAnswer fields
-  turn-wrong h = rw (not-true (allBits fields) (λ e. omega (arith, h, all-at fields j (omega (arith, turn .within, next)) e)))
+  turn-wrong h = rw (not-true (allBits fields) (λ e. omega (arith, h, bit-at fields j e (omega (arith, turn .within, next)))))
 
 -- at most eight fields, of which one is still to be read
 pub turn-small : (fields : List ℕ) (k byte : ℕ) → StatusTurn fields k byte → 0 < k → length fields ≤ 8 → byte < 128

@@ -10,7 +10,8 @@ use Rattle.records.specs.declared.record_row.RecordRow.{RecordRow}
 use Rattle.records.specs.declared.reader.RecordRead.{RecordRead}
 use Rattle.records.specs.declared.reader.RecordRead.the-variants.{Accepted, Refused}
 use Rattle.records.specs.Refusals.{wrongStatus}
-use Rattle.records.specs.Status.{allBits, byteOf}
+use Rattle.checks.specs.Range.{allBits}
+use Rattle.records.specs.Status.{byteOf}
 
 -- 01's widths of a data row, with eight status fields of one digit in place of the block
 abbrev pub recordWidths : List ℕ
