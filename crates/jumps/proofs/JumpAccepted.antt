@@ -11,11 +11,10 @@ use Rattle.checks.proofs.PassedLaws.{all-passed, front-passed}
 use Rattle.checks.proofs.LowestLaws.{IsLowest, lowest-is-least}
 use Rattle.phase.specs.declared.settings.Settings.{Settings}
 use Rattle.phase.specs.declared.state.PhaseState.{PhaseState}
-use Rattle.phase.specs.Refusals.{invalidState}
 use Rattle.phase.specs.device.Ranges.{InRange}
 use Rattle.phase.specs.State.{valid}
 use Rattle.phase.specs.Tick.{phaseChecks, tickRefusal}
-use Rattle.phase.proofs.Accepted.{settings-passed}
+use Rattle.phase.proofs.Accepted.{phase-passed}
 use Rattle.jumps.specs.Refusals.{jumpTooLong}
 use Rattle.jumps.specs.Jump.{jumpLimit, jumpChecks, jumpRefusal, jumpOf, refusedJump, jumpAnswer}
 
@@ -23,10 +22,8 @@ use Rattle.jumps.specs.Jump.{jumpLimit, jumpChecks, jumpRefusal, jumpOf,
 pub jump-passed : (settings : Settings) (state : PhaseState) (count : ℕ) → jumpRefusal settings state count ≡ 0 → InRange settings × (valid settings state ≡ true) × (count ≤ jumpLimit)
 unfolding jumpRefusal
 jump-passed settings state count e =
-    let s = settings-passed settings _ e in
-    let own = check (valid settings state) invalidState ∷ check (leb count jumpLimit) jumpTooLong ∷ [] in
-    let (is-valid, (short, none)) = all-passed own 0 refl (s .1) .0 in
-    (s .0, is-valid, leb-true count jumpLimit short)
+    let (range, is-valid, own) = phase-passed settings state _ e in
+    (range, is-valid, leb-true count jumpLimit (all-passed (check (leb count jumpLimit) jumpTooLong ∷ []) 0 refl own .0 .0))
 
 -- so a tick is accepted where a jump is
 pub jump-tick-accepted : (settings : Settings) (state : PhaseState) (count : ℕ) → jumpRefusal settings state count ≡ 0 → tickRefusal settings state ≡ 0

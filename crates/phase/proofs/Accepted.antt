@@ -17,7 +17,7 @@ use Rattle.phase.specs.device.Pace.{paceOf, Ready}
 use Rattle.phase.specs.Settings.{settingsChecks, settingsRefusal, tripLevel}
 use Rattle.phase.specs.device.Ranges.{InRange}
 use Rattle.phase.specs.State.{runLimit, valid, validCounts, validFor}
-use Rattle.phase.specs.Tick.{tickRefusal, tickOf, refusedTick, tickAnswer}
+use Rattle.phase.specs.Tick.{phaseChecks, tickRefusal, tickOf, refusedTick, tickAnswer}
 
 -- settings that pass the check, and what comes after them
 pub settings-passed : (settings : Settings) (rest : ℕ) → firstFailed (settingsChecks settings) rest ≡ 0 → InRange settings × (rest ≡ 0)
@@ -66,12 +66,17 @@ ready settings state g range e =
       drop = leb-true (state .drop) runLimit (limits .1);
     }
 
+-- settings and a state that pass, and what comes after them
+pub phase-passed : (settings : Settings) (state : PhaseState) (rest : ℕ) → firstFailed (phaseChecks settings state) rest ≡ 0 → InRange settings × (valid settings state ≡ true) × (rest ≡ 0)
+phase-passed settings state rest e =
+    let (range, others) = settings-passed settings _ e in
+    let (own, after) = all-passed (check (valid settings state) invalidState ∷ []) rest refl others in
+    (range, own .0, after)
+
 -- an accepted tick
 pub tick-passed : (settings : Settings) (state : PhaseState) → tickRefusal settings state ≡ 0 → InRange settings × (valid settings state ≡ true)
 unfolding tickRefusal
-tick-passed settings state e =
-    let s = settings-passed settings _ e in
-    (s .0, all-passed (check (valid settings state) invalidState ∷ []) 0 refl (s .1) .0 .0)
+tick-passed settings state e = let p = phase-passed settings state 0 e in (p .0, p .1)
 
 -- ---- the answers
 

@@ -3,3 +3,4 @@ pub mod Walk
 pub mod Accepted
 pub mod KeepsValid
 pub mod LowestRefusals
+pub mod TripLaws

@@ -1,0 +1,4 @@
+pub mod Refusals
+pub mod Reason
+pub mod Answer
+pub mod device

@@ -1,0 +1,2 @@
+-- Devices of the code and of its proofs.
+pub mod Decided

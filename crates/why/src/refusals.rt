@@ -1,0 +1,2 @@
+// The refusal number of a block byte, beside those of a tick.
+pub const WRONG_BLOCK: u32 = 14;
