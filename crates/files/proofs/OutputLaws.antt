@@ -22,7 +22,7 @@ use Rattle.records.specs.Writer.{WriteAnswer, writeAnswer}
 use Rattle.records.proofs.WriterLaws.{Fits, fits-row}
 use Rattle.records.proofs.BackLaws.{record-most, write-fits}
 use Rattle.text.proofs.StoreLaws.{sets-append}
-use Rattle.text.proofs.DecimalLaws.{decimal-length, decimal-short}
+use Rattle.text.proofs.DecimalLaws.{decimal-short}
 
 pub pair-length : (a b : ℕ) → length (pairLine a b) ≡ length (decimal a) + 1 + length (decimal b) + 1
 pair-length a b = rw (length-append, length-append) (omega arith)
@@ -42,9 +42,12 @@ pub change-short : (row outputs : ℕ) → row ≤ lastRow → outputs < 256 →
 change-short row outputs h k =
     omega (arith, pair-length row outputs, decimal-short 5 row (omega arith) (omega arith), decimal-short 2 outputs (omega arith) (omega arith))
 
--- an end line at most 4 + 10 + 1 + 10 + 1
-pub end-short : (done refusal : ℕ) → length (endLine done refusal) ≤ endRoom
-end-short done refusal = omega (arith, pair-length done refusal, decimal-length 9 done, decimal-length 9 refusal)
+-- an end line of 32-bit numbers at most 4 + 10 + 1 + 10 + 1
+pub end-short : (done refusal : ℕ) → done < 4294967296 → refusal < 4294967296 → length (endLine done refusal) ≤ endRoom
+end-short done refusal h k =
+    let ten = decimal-short 9 done (omega arith) (omega arith) in
+    let ten-more = decimal-short 9 refusal (omega arith) (omega arith) in
+    omega (arith, pair-length done refusal)
 
 -- ---- a row of the record
 

@@ -11,6 +11,7 @@ use Rattle.files.specs.declared.output.Form.{Form}
 use Rattle.files.specs.declared.output.Form.the-variants.{Changes, Record}
 use Rattle.text.specs.Number.{decimal}
 use Rattle.text.specs.Line.{comma, lf}
+use Rattle.text.specs.Words.{bytesOf}
 
 -- "Both forms have commas between, decimals without leading zeros, and LF at the end."
 abbrev pub pairLine : ℕ → ℕ → List ℕ
@@ -20,9 +21,9 @@ pairLine a b = decimal a ++ (comma ∷ decimal b) ++ (lf ∷ [])
 abbrev pub changeLine : ℕ → ℕ → List ℕ
 changeLine row outputs = pairLine row outputs
 
--- "the end line: `end`, rows done, the refusal number". The bytes of `end` are 101, 110, 100.
+-- "the end line: `end`, rows done, the refusal number"
 abbrev pub endLine : ℕ → ℕ → List ℕ
-endLine done refusal = 101 ∷ 110 ∷ 100 ∷ comma ∷ pairLine done refusal
+endLine done refusal = bytesOf "end," ++ pairLine done refusal
 
 -- "for each tick whose byte differs from the one before"
 abbrev pub changeOf : ℕ → ℕ → ℕ → List ℕ

@@ -29,9 +29,9 @@ fn put_pair(out: &mut [u8], at: usize, a: u32, b: u32) -> usize
     requires { ⌜ at + length (pairLine a b) ≤ length (now out) ⌝ }
     ensures { λ r. ⌜ Wrote (now (out .entry)) (now (out .exit)) at r (pairLine a b) ⌝ }
 {
-    let p = put_decimal(out, at, a);
+    let p = put_decimal(out, at, a as u64);
     out[p] = b',';
-    let q = put_decimal(out, p + 1, b);
+    let q = put_decimal(out, p + 1, b as u64);
     out[q] = b'\n';
     q + 1
 }
@@ -93,7 +93,7 @@ pub(crate) fn note_row(
 // The end line, at the front.
 pub(crate) fn put_end(out: &mut [u8], done: u32, refusal: u32) -> usize
     requires { ⌜ endRoom ≤ length (now out) ⌝ }
-    ensures { λ r. ⌜ Wrote (now (out .entry)) (now (out .exit)) 0 r (endLine done refusal) ⌝ }
+    ensures { λ r. ⌜ WroteWithin endRoom (now (out .entry)) (now (out .exit)) 0 r (endLine done refusal) ⌝ }
 {
     out[0] = b'e';
     out[1] = b'n';

@@ -7,8 +7,7 @@ ghost use Rattle.rows.specs.SettingsLine.{settingsLineAnswer};
 ghost use Rattle.files.specs.Output.{noteRoom, spread, endRoom};
 ghost use Rattle.files.specs.Progress.{freshProgress, stopped, refuse, opened, endRefusal, endOf};
 ghost use Rattle.files.specs.Progress.{afterTick, wroteTick, afterRow, wroteRow, afterLine, wroteLine};
-ghost use Rattle.files.specs.device.Calls.{Notable, LineNoted};
-ghost use Rattle.text.specs.device.Calls.{Wrote};
+ghost use Rattle.files.specs.device.Calls.{Notable, LineNoted, WroteWithin};
 use crate::output::Form;
 use crate::output::note_row;
 use crate::output::put_end;
@@ -203,7 +202,7 @@ pub(crate) fn end_refusal(stage: Stage) -> u32
 // The end line, at the front of the output; answers how long it is.
 pub(crate) fn on_end(p: Progress, out: &mut [u8]) -> usize
     requires { ⌜ endRoom ≤ length (now out) ⌝ }
-    ensures { λ r. ⌜ Wrote (now (out .entry)) (now (out .exit)) 0 r (endOf p) ⌝ }
+    ensures { λ r. ⌜ WroteWithin endRoom (now (out .entry)) (now (out .exit)) 0 r (endOf p) ⌝ }
 {
     let stage = p.stage;
     let refusal = end_refusal(stage);

@@ -24,7 +24,8 @@ use Rattle.records.proofs.WriterLaws.{Fits, fits, fits-row, refused-not
 
 module _ (x : RecordRow) (fit : rowFits x ≡ true) where
   -- the fields fit the reader's widths, and a timestamp fewer
-  fields-fit : (w : ℕ) → w ≤ 9 → timestamp (x .number) < 10 ^ suc w → fitsIn (6 ∷ suc w ∷ 7 ∷ 7 ∷ 7 ∷ replicate 8 1) (decimals (fieldNumbers x)) ≡ true
+  fields-fit : (w : ℕ) → w ≤ 19 → timestamp (x .number) < 10 ^ suc w
+      → fitsIn (6 ∷ suc w ∷ 7 ∷ 7 ∷ 7 ∷ replicate 8 1) (decimals (fieldNumbers x)) ≡ true
   fields-fit w h k =
       let f = fits x fit in
       fits-decimal 5 (x .number) _ _ (omega arith) (omega (arith, f .most))

@@ -32,8 +32,10 @@ decimal-long : (n v : ℕ) → 10 ≤ v → decimalIn (suc n) v ≡ decimalIn n 
 unfolding decimalIn
 decimal-long n v h = rw (le-ltb v 10 h)
 
-pub decimal-more : (v : ℕ) → 10 ≤ v → v < 10000000000 → decimal v ≡ decimal (v / 10) ++ ((48 + v % 10) ∷ [])
-decimal-more v h k = decimal-long 8 v h ∙ ap (λ (l : List ℕ). l ++ ((48 + v % 10) ∷ [])) (sym (decimal-room 8 (v / 10) (omega arith)))
+pub decimal-more : (v : ℕ) → 10 ≤ v → v < 100000000000000000000 → decimal v ≡ decimal (v / 10) ++ ((48 + v % 10) ∷ [])
+decimal-more v h k =
+    let room : decimal (v / 10) ≡ decimalIn 18 (v / 10) = decimal-room 18 (v / 10) (omega arith) in
+    rw room (decimal-long 18 v h)
 
 -- at most n + 1 digits
 pub decimal-length : (n v : ℕ) → length (decimalIn n v) ≤ suc n
@@ -64,15 +66,15 @@ value-decimal (suc n) v =
     (λ e. rw (value-snoc 0 (decimalIn n (v / 10)) (48 + v % 10), value-decimal n (v / 10)) (omega arith))
 
 pub decimal-back : (v : ℕ) → valueOf (decimal v) ≡ v
-decimal-back v = value-decimal 9 v
+decimal-back v = value-decimal 19 v
 
 -- ---- stores one after the other
 
-pub digit-longer : (v : ℕ) → 10 ≤ v → v < 10000000000 → length (decimal v) ≡ length (decimal (v / 10)) + 1
+pub digit-longer : (v : ℕ) → 10 ≤ v → v < 100000000000000000000 → length (decimal v) ≡ length (decimal (v / 10)) + 1
 digit-longer v h k = rw (decimal-more v h k, length-append)
 
 -- one digit more, at the place after those before it
-pub put-digit : (s : List ℕ) (at v : ℕ) → 10 ≤ v → v < 10000000000
+pub put-digit : (s : List ℕ) (at v : ℕ) → 10 ≤ v → v < 100000000000000000000
     → set (sets s at (decimal (v / 10))) (at + length (decimal (v / 10))) (48 + v % 10) ≡ sets s at (decimal v)
 put-digit s at v h k = rw (decimal-more v h k, sets-append)
 
@@ -116,10 +118,10 @@ decimal-room-add n (suc k) v h =
     let l : suc n ≤ suc (n + k) = omega arith in
     rw e (decimal-room (n + k) v (omega (arith, pow-le-pow-right {n = 10} (omega arith) l)) ∙ decimal-room-add n k v h)
 
-pub decimal-short : (n v : ℕ) → n ≤ 9 → v < 10 ^ suc n → length (decimal v) ≤ suc n
+pub decimal-short : (n v : ℕ) → n ≤ 19 → v < 10 ^ suc n → length (decimal v) ≤ suc n
 decimal-short n v l h =
-    let e : n + (9 - n) ≡ 9 = omega arith in
-    let d : decimal v ≡ decimalIn n v = ap (λ (k : ℕ). decimalIn k v) (sym e) ∙ decimal-room-add n (9 - n) v h in
+    let e : n + (19 - n) ≡ 19 = omega arith in
+    let d : decimal v ≡ decimalIn n v = ap (λ (k : ℕ). decimalIn k v) (sym e) ∙ decimal-room-add n (19 - n) v h in
     rw d (decimal-length n v)
 
 pub decimal-some : (n v : ℕ) → 1 ≤ length (decimalIn n v)
@@ -145,5 +147,5 @@ decimal-begins (suc n) v h k =
     decimal-begins n (v / 10) (omega (arith, ltb-false v 10 t)) (omega arith)
     (sym (begins (decimalIn n (v / 10)) ((48 + v % 10) ∷ []) (decimal-some n (v / 10))) ∙ e))
 
-pub decimal-no-zero : (v : ℕ) → 1 ≤ v → v < 10000000000 → getD (decimal v) 0 0 ≡ 48 → ⊥
-decimal-no-zero v h k = decimal-begins 9 v h (omega arith)
+pub decimal-no-zero : (v : ℕ) → 1 ≤ v → v < 100000000000000000000 → getD (decimal v) 0 0 ≡ 48 → ⊥
+decimal-no-zero v h k = decimal-begins 19 v h (omega arith)

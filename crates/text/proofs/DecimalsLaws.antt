@@ -101,13 +101,13 @@ module _ (before ns : List ℕ) where
 
 -- ---- how long a line is
 
-closing-longest : (ns : List ℕ) → length (closing (decimals ns)) ≤ 11 * length ns + 1
+closing-longest : (ns : List ℕ) → length (closing (decimals ns)) ≤ 21 * length ns + 1
 unfolding closing
 closing-longest [] = omega arith
-closing-longest (n ∷ ns) = rw length-append (omega (arith, decimal-length 9 n, closing-longest ns))
+closing-longest (n ∷ ns) = rw length-append (omega (arith, decimal-length 19 n, closing-longest ns))
 
--- at most 10 digits and what closes them, for each number, and LF
-pub line-longest : (ns : List ℕ) → 1 ≤ length ns → length (lineOf ns) ≤ 11 * length ns + 1
+-- at most 20 digits and what closes them, for each number, and LF
+pub line-longest : (ns : List ℕ) → 1 ≤ length ns → length (lineOf ns) ≤ 21 * length ns + 1
 line-longest ns some = rw (← from-first ns some) (closing-longest ns)
 
 -- ---- a line whose decimals fit is of right shape: its numbers come back, and the widths bound its length

@@ -12,3 +12,4 @@ pub mod CuttingLaws
 pub mod PieceLaws
 pub mod CutTurns
 pub mod KeptLaws
+pub mod WordsLaws

@@ -316,9 +316,12 @@ unfolding fitsIn
 fits-none = refl
 
 -- a number below 10 to the width is a field that fits, in front of others that fit
-pub fits-decimal : (n v : ℕ) (ws : List ℕ) (fs : List (List ℕ)) → n ≤ 9 → v < 10 ^ suc n → fitsIn ws fs ≡ true → fitsIn (suc n ∷ ws) (decimal v ∷ fs) ≡ true
+pub fits-decimal : (n v : ℕ) (ws : List ℕ) (fs : List (List ℕ)) → n ≤ 19 → v < 10 ^ suc n → fitsIn ws fs ≡ true
+    → fitsIn (suc n ∷ ws) (decimal v ∷ fs) ≡ true
 unfolding fitsIn
 fits-decimal n v ws fs l k h =
-    let m : suc n ≤ 10 = omega arith in
-    let t : v < 10000000000 = omega (arith, pow-le-pow-right {n = 10} (omega arith) m) in
-    rw (decimal-digits 9 v (omega arith), le-leb 1 (length (decimal v)) (decimal-some 9 v), le-leb (length (decimal v)) (suc n) (decimal-short n v l k)) h
+    let m : suc n ≤ 20 = omega arith in
+    let t : v < 100000000000000000000 = omega (arith, pow-le-pow-right {n = 10} (omega arith) m) in
+    let some = le-leb 1 (length (decimal v)) (decimal-some 19 v) in
+    let short = le-leb (length (decimal v)) (suc n) (decimal-short n v l k) in
+    rw (decimal-digits 19 v (omega arith), some, short) h

@@ -30,9 +30,9 @@ unfoldable pub decimalIn : ℕ → ℕ → List ℕ
 decimalIn zero v = (48 + v) ∷ []
 decimalIn (suc n) v = cond (ltb v 10) ((48 + v) ∷ []) (decimalIn n (v / 10) ++ ((48 + v % 10) ∷ []))
 
--- "decimals without leading zeros": a 32-bit number has at most 10 digits
+-- "decimals without leading zeros": a 64-bit number has at most 20 digits
 abbrev pub decimal : ℕ → List ℕ
-decimal v = decimalIn 9 v
+decimal v = decimalIn 19 v
 
 -- ---- what the reader of digits goes by
 

@@ -30,7 +30,7 @@ pub fn put_line(out: &mut [u8], numbers: &[u32]) -> usize
     let mut at = 0;
     let mut k = 0;
     while k < numbers.len() {
-        let p = put_decimal(out, at, numbers[k]);
+        let p = put_decimal(out, at, numbers[k] as u64);
         k += 1;
         out[p] = field_closer(k, numbers.len());
         at = p + 1;

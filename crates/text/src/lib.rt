@@ -5,3 +5,4 @@ pub mod decimals;
 pub mod line;
 pub mod lines;
 pub mod number;
+pub mod words;

@@ -6,7 +6,7 @@ ghost use Rattle.text.specs.Number.{digitLimit, decimal};
 ghost use Rattle.text.specs.device.Calls.{DigitsFound, Wrote};
 
 // The byte '0'.
-const ZERO: u32 = 48;
+const ZERO: u64 = 48;
 
 pub struct Digits {
     pub count: usize,
@@ -52,7 +52,7 @@ pub fn decimal_length(v: u32) -> usize
 }
 
 // Writes a decimal at a place, and answers the place after it.
-pub fn put_decimal(out: &mut [u8], at: usize, v: u32) -> usize
+pub fn put_decimal(out: &mut [u8], at: usize, v: u64) -> usize
     requires { ⌜ at + length (decimal v) ≤ length (now out) ⌝ }
     ensures { λ r. ⌜ Wrote (now (out .entry)) (now (out .exit)) at r (decimal v) ⌝ }
 {

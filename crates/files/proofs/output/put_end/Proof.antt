@@ -24,13 +24,16 @@ slice-write-out-4 c = simp length-set (omega arith)
 put-pair-requires : tie.Need-put-pair-requires
 put-pair-requires c κs =
     let a = c .before .before .args in
-    simp length-set (omega (arith, end-short (a .done) (a .refusal)))
+    simp length-set (omega (arith, end-short (a .done) (a .refusal) (omega arith) (omega arith)))
 
 same-length : tie.Need-same-length
 same-length c = ap length (c .before .before .put-pair .ensures .output) ∙ simp (length-sets, length-set)
 
 returns : tie.Need-returns
-returns c = search needs
+returns c =
+    let a = c .before .before .before .before .before .args in
+    let short = end-short (a .done) (a .refusal) (omega arith) (omega arith) in
+    record { wrote = search needs; short = omega arith }
 
 pub put-end-spec : {M : Type 1} → statement M
 put-end-spec =

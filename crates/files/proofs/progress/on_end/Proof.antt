@@ -25,8 +25,11 @@ returns c =
     let e = ap (endLine (a .p .done)) (c .before .before .before .before .end-refusal .ensures) in
     let f = c .before .before .put-end .ensures in
     record {
-      place-after = f .place-after ∙ ap (λ (w : List ℕ). 0 + length w) e;
-      output = f .output ∙ ap (sets (a .out .now) 0) e;
+      wrote = record {
+        place-after = f .wrote .place-after ∙ ap (λ (w : List ℕ). 0 + length w) e;
+        output = f .wrote .output ∙ ap (sets (a .out .now) 0) e;
+      };
+      short = f .short;
     }
 
 pub on-end-spec : {M : Type 1} → statement M

@@ -5,9 +5,8 @@ use native.Mathlib.Omega.{arith}
 use lib.ListN.{length}
 use lib.Seq.{sets, length-sets}
 use borrow.Author.Needs.{needs}
-use Rattle.files.specs.Progress.{endRefusal, endOf}
+use Rattle.files.specs.Progress.{endOf}
 use Rattle.files.proofs.AnswerLaws.{finish-cramped, finish-roomy}
-use Rattle.files.proofs.OutputLaws.{end-short}
 use Rattle.files.proofs.replay.finish.Statement.{statement}
 use Rattle.files.proofs.replay.finish.Tie as tie
 
@@ -29,15 +28,11 @@ same-length c = search needs
 returns-2 : tie.Need-returns-2
 returns-2 c =
     let a = c .before .before .before .before .before .before .before .args in
-    let last = c .before .before .before .before .last-progress .result in
-    let f = c .before .before .on-end .ensures in
+    let f = c .before .before .on-end .ensures .wrote in
     let q = finish-roomy (a .state) (length (a .out .now)) (omega arith) ∙ ap endOf (sym (c .before .before .before .before .last-progress .ensures)) in
     let k : length (c .before .before .on-end .last .1 .0) ≡ length (a .out .now) = ap length (f .output) ∙ simp length-sets in (
       omega (arith, f .place-after, ap length q),
-      (
-        f .output ∙ ap (sets (a .out .now) 0) (sym q),
-        omega (arith, f .place-after, end-short (last .done) (endRefusal (last .stage))),
-      ),
+      (f .output ∙ ap (sets (a .out .now) 0) (sym q), omega arith),
     )
 
 pub finish-spec : {M : Type 1} → statement M

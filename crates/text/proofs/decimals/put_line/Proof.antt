@@ -25,6 +25,9 @@ mul-put-decimal c = search needs
 shared-slice-read-put-decimal : tie.Need-shared-slice-read-put-decimal Inv-loop μ-loop
 shared-slice-read-put-decimal c = search needs
 
+cast-put-decimal : tie.Need-cast-put-decimal Inv-loop μ-loop
+cast-put-decimal c = omega (arith, c .shared-slice-known2 .given (c .before .before .before .loop .k))
+
 put-decimal-requires : tie.Need-put-decimal-requires Inv-loop μ-loop
 put-decimal-requires c κs =
     let l = c .before .before .before .loop in
@@ -92,6 +95,7 @@ put-line-spec =
     loop-holds
     mul-put-decimal
     shared-slice-read-put-decimal
+    cast-put-decimal
     put-decimal-requires
     add-k
     field-closer-requires

@@ -20,7 +20,7 @@ loop-holds : tie.Need-loop-holds Inv-loop μ-loop
 loop-holds c = search needs
 
 add-n : tie.Need-add-n Inv-loop μ-loop
-add-n c = omega (arith, decimal-length 9 (c .before .before .args .v))
+add-n c = omega (arith, decimal-length 19 (c .before .before .args .v))
 
 loop-less : tie.Need-loop-less Inv-loop μ-loop
 loop-less c = search needs
