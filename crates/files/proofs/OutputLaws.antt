@@ -12,7 +12,8 @@ use Rattle.files.specs.declared.output.Form.{Form}
 use Rattle.files.specs.declared.output.Form.the-variants.{Changes, Record}
 use Rattle.text.specs.Number.{decimal}
 use Rattle.files.specs.Output.{pairLine, changeLine, changeRoom, recordRow, noteRoom, spread, endLine, endRoom}
-use Rattle.files.specs.device.Calls.{Notable, WroteWithin}
+use Rattle.files.specs.device.Calls.{Notable}
+use Rattle.text.specs.device.Calls.{WroteWithin}
 use Rattle.rows.specs.declared.row.Row.{Row}
 use Rattle.rows.specs.Row.{lastRow}
 use Rattle.rows.proofs.RowLaws.{shortestRow}

@@ -5,8 +5,8 @@ ghost use Rattle.files.specs.Output.{pairLine, changeLine, changeRoom, c
 ghost use Rattle.rows.specs.Row.{lastRow};
 ghost use Rattle.records.specs.RecordRow.{recordText, longestRecord};
 ghost use Rattle.files.specs.declared.output.Form.the-variants.{Record};
-ghost use Rattle.files.specs.device.Calls.{Notable, WroteWithin};
-ghost use Rattle.text.specs.device.Calls.{Wrote};
+ghost use Rattle.files.specs.device.Calls.{Notable};
+ghost use Rattle.text.specs.device.Calls.{Wrote, WroteWithin};
 use records::RecordRow;
 use records::write_row;
 use rows::Row;

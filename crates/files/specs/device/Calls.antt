@@ -8,7 +8,7 @@ use lib.ListN.{length}
 use lib.Seq.{sets}
 use Rattle.text.specs.declared.lines.Closer.the-variants.{CrLf}
 use Rattle.text.specs.declared.cutter.Cutter.{Cutter}
-use Rattle.text.specs.device.Calls.{Wrote, Holds}
+use Rattle.text.specs.device.Calls.{Holds}
 use Rattle.rows.specs.declared.row.Row.{Row}
 use Rattle.rows.specs.Row.{lastRow, largestCurrent}
 use Rattle.files.specs.declared.output.Form.{Form}
@@ -30,11 +30,6 @@ pub record Notable (form : Form) (done : ℕ) (x : Row) (at room : ℕ) : Type 0
   pub second : x .l2 ≤ largestCurrent
   pub third : x .l3 ≤ largestCurrent
   pub free : at + noteRoom form ≤ room
-
--- these bytes were written at a place, at most `room` of them
-pub record WroteWithin (room : ℕ) (before after : List ℕ) (at place : ℕ) (bytes : List ℕ) : Type 0 where
-  pub wrote : Wrote before after at place bytes
-  pub short : place ≤ at + room
 
 -- a line was noted: the progress after it, and what it wrote at a place, at most `room` bytes
 pub record LineNoted (room : ℕ) (before after : List ℕ) (at : ℕ) (p : Progress) (bytes : List ℕ) (answer : Noted)

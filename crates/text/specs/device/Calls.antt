@@ -37,6 +37,11 @@ pub record Wrote (before after : List ℕ) (at place : ℕ) (bytes : List ℕ) :
   pub place-after : place ≡ at + length bytes
   pub output : after ≡ sets before at bytes
 
+-- and at most `room` of them
+pub record WroteWithin (room : ℕ) (before after : List ℕ) (at place : ℕ) (bytes : List ℕ) : Type 0 where
+  pub wrote : Wrote before after at place bytes
+  pub short : place ≤ at + room
+
 -- one byte more was put after the n bytes held
 pub record ByteCut (closer : Closer) (limit n b : ℕ) (before after : List ℕ) (answer : Cut) : Type 0 where
   pub cut : answer ≡ cutOf closer limit (take n before ++ (b ∷ []))

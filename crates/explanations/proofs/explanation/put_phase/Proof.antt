@@ -1,0 +1,34 @@
+-- `explanations::explanation::put_phase` meets its contract: the explanation and the tick as they answer.
+-- Assumes nothing.
+use borrow.Author.Needs.{needs}
+use Rattle.explanations.proofs.explanation.put_phase.Statement.{statement}
+use Rattle.explanations.proofs.explanation.put_phase.Tie as tie
+
+explain-requires : tie.Need-explain-requires
+explain-requires c κs = search needs
+
+tick-requires : tie.Need-tick-requires
+tick-requires c κs = search needs
+
+trip-level-requires : tie.Need-trip-level-requires
+trip-level-requires c κs = search needs
+
+put-line-requires : tie.Need-put-line-requires
+put-line-requires c κs = search needs
+
+same-length : tie.Need-same-length
+same-length c = search needs
+
+returns : tie.Need-returns
+returns c = rw (c .before .before .before .before .before .before .before .explain .ensures .0, c .before .before .before .before .before .before .tick .ensures, c .before .before .before .trip-level .ensures) at (c .before .before .put-line .ensures)
+
+pub put-phase-spec : {M : Type 1} → statement M
+put-phase-spec =
+    tie.close
+    (tie.spec
+    explain-requires
+    tick-requires
+    trip-level-requires
+    put-line-requires
+    same-length
+    returns)
