@@ -9,12 +9,12 @@ use lib.Dec.{leb, ltb}
 use lib.ListN.{length}
 use borrow.Author.Tests.{le-leb, lt-leb, lt-ltb, leb-true, ltb-true}
 use Rattle.files.specs.declared.output.Form.{Form}
-use Rattle.files.specs.declared.output.Form.the-variants.{Changes, Record}
+use Rattle.files.specs.declared.output.Form.the-variants.{Changes, Record, Explain}
 use Rattle.files.specs.declared.replay.Replay.{Replay}
 use Rattle.files.specs.declared.replay.Fed.{Fed}
 use Rattle.text.specs.Lines.{joined}
 use Rattle.files.specs.Output.{spread, endRoom}
-use Rattle.files.specs.Replay.{Told, writtenFirst, toldOf, replayOf, recordOf, longestLine, lineLimit, freshReplay, portionRoom, fed, writes, takes, fedBy, fedIf, feedAnswer, writesIf, feedWrites, endsWith, finishIf, finishWrites}
+use Rattle.files.specs.Replay.{Told, writtenFirst, toldOf, replayOf, recordOf, explanationOf, longestLine, lineLimit, freshReplay, portionRoom, fed, writes, takes, fedBy, fedIf, feedAnswer, writesIf, feedWrites, endsWith, finishIf, finishWrites}
 use Rattle.files.specs.device.Calls.{Sound}
 use Rattle.checks.proofs.Tests.{both-true, leb-iff}
 use Rattle.files.proofs.PortionLaws.{fed-sound, fresh-sound, toldByPortions, told-of-portions}
@@ -25,20 +25,19 @@ use Rattle.files.proofs.PortionLaws.{fed-sound, fresh-sound, toldByPort
 held-less : (form : Form) (held read room : ℕ) → held < lineLimit → portionRoom form longestLine read ≤ room → portionRoom form held read ≤ room
 held-less Changes held read room h k = omega arith
 held-less Record held read room h k = omega arith
+held-less (Explain row) held read room h k = omega arith
 
--- nor does a smaller portion; and room for the record suffices for either form
+-- nor does a smaller portion
 pub read-less : (form : Form) (held read most room : ℕ) → read ≤ most → portionRoom form held most ≤ room → portionRoom form held read ≤ room
 read-less Changes held read most room h k = omega arith
 read-less Record held read most room h k = omega arith
-
-pub room-for-any : (form : Form) (held read : ℕ) → portionRoom form held read ≤ portionRoom Record held read
-room-for-any Changes held read = omega arith
-room-for-any Record held read = omega arith
+read-less (Explain row) held read most room h k = omega arith
 
 -- the code divides the room in place of multiplying the bytes
 pub input-room : (form : Form) (bytes room : ℕ) → leb bytes (room / spread form) ≡ leb (spread form * bytes) room
 input-room Changes bytes room = leb-iff bytes (room / spread Changes) (spread Changes * bytes) room (λ h. omega arith) (λ h. omega arith)
 input-room Record bytes room = leb-iff bytes (room / spread Record) (spread Record * bytes) room (λ h. omega arith) (λ h. omega arith)
+input-room (Explain row) bytes room = leb-iff bytes (room / 46) (46 * bytes) room (λ h. omega arith) (λ h. omega arith)
 
 fed-form : (r : Replay) (s : List ℕ) → fed r s .form ≡ r .form
 unfolding fed
@@ -131,7 +130,14 @@ unfolding handedOut
 notes-alone r [] room a b = refl
 notes-alone r (p ∷ ps) room a b = ap (λ (w : List ℕ). feedWrites r p room ++ w) (notes-alone (feedAnswer r p room .state) ps room a b)
 
+notes-of-calls : (form : Form) (ps : List (List ℕ)) (room last : ℕ) → roomFor form ps room ≡ true → handedOut (freshReplay form) ps room last .notes ≡ toldOf form (joined ps) .notes
+notes-of-calls form ps room last e =
+    notes-alone (freshReplay form) ps room last endRoom ∙ ap (λ (x : Told). x .notes) (told-of-calls room endRoom (omega arith) form ps e)
+
 -- WHAT A VIEWER RELIES ON: whatever the portions, what the calls hand out before the end is the record of the whole input
 pub record-of-calls : (ps : List (List ℕ)) (room last : ℕ) → roomFor Record ps room ≡ true → handedOut (freshReplay Record) ps room last .notes ≡ recordOf (joined ps)
-record-of-calls ps room last e =
-    notes-alone (freshReplay Record) ps room last endRoom ∙ ap (λ (x : Told). x .notes) (told-of-calls room endRoom (omega arith) Record ps e)
+record-of-calls = notes-of-calls Record
+
+-- WHAT A STUDENT RELIES ON: and the same of the explanation of a row
+pub explanation-of-calls : (row : ℕ) (ps : List (List ℕ)) (room last : ℕ) → roomFor (Explain row) ps room ≡ true → handedOut (freshReplay (Explain row)) ps room last .notes ≡ explanationOf row (joined ps)
+explanation-of-calls row = notes-of-calls (Explain row)

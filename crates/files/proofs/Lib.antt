@@ -1,8 +1,10 @@
 pub mod OutputLaws
 pub mod ProgressLaws
 pub mod RefusedLaws
+pub mod QuietLaws
 pub mod PortionLaws
 pub mod FeedLaws
 pub mod AnswerLaws
 pub mod ReplayLaws
 pub mod NeverRefused
+pub mod ExplanationLaws

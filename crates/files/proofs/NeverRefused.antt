@@ -75,6 +75,10 @@ module _ (ls : List (List ℕ)) (l : List ℕ) (x : Row) where
     right-reached : Right Running reached
     right-reached = rw running at (lines-keep freshProgress ls refl)
 
+    -- its settings, state and block are accepted ones
+    pub row-allowed : (settingsRefusal (reached .settings) ≡ 0) × (validRelay (reached .settings) (reached .relay) ≡ true) × (x .block ≤ 1)
+    row-allowed = (right-reached .0, right-reached .1, accepted-row l (reached .done) x e .block)
+
     pub no-tick-refused : ticked reached x .refusal ≡ 0
     no-tick-refused = tick-is-accepted reached x right-reached (accepted-row l (reached .done) x e .block)
 

@@ -9,7 +9,7 @@ use lib.ListN.{length, set, length-append}
 use lib.Seq.{sets}
 use Rattle.text.specs.Line.{lf, comma}
 use Rattle.files.specs.declared.output.Form.{Form}
-use Rattle.files.specs.declared.output.Form.the-variants.{Changes, Record}
+use Rattle.files.specs.declared.output.Form.the-variants.{Changes, Record, Explain}
 use Rattle.text.specs.Number.{decimal}
 use Rattle.files.specs.Output.{pairLine, changeLine, changeRoom, recordRow, noteRoom, spread, endLine, endRoom}
 use Rattle.files.specs.device.Calls.{Notable}
@@ -75,7 +75,9 @@ record-written done x outputs at out after r h e =
 pub row-room : (form : Form) (at long room : ℕ) → shortestRow ≤ long → at + spread form * long ≤ room → at + noteRoom form ≤ room
 row-room Changes at long room h k = omega arith
 row-room Record at long room h k = omega arith
+row-room (Explain row) at long room h k = omega arith
 
 pub row-short : (form : Form) (written at long : ℕ) → shortestRow ≤ long → written ≤ at + noteRoom form → written ≤ at + spread form * long
 row-short Changes written at long h k = omega arith
 row-short Record written at long h k = omega arith
+row-short (Explain row) written at long h k = omega arith

@@ -1,14 +1,15 @@
 -- The replay fed by portions: that what is told is that of the whole input.
 -- Assumes nothing.
 use mathlib.Core.Path.{_≡_, refl, sym, ap, _∙_}
-use mathlib.Core.Bool.{Bool, true, false}
+use mathlib.Core.Bool.{Bool, true, false, false≢true}
 use mathlib.Core.List.{List, [], _∷_, _++_, append-assoc}
 use Prim.Native.Nat.{ℕ, _<_}
 use native.Mathlib.Omega.{arith}
 use lib.Dec.{ltb}
 use lib.ListN.{length, length-take}
-use borrow.Author.Tests.{ltb-true, ltb-false}
+use borrow.Author.Tests.{leb-true, ltb-true, ltb-false}
 use Rattle.files.specs.declared.output.Form.{Form}
+use Rattle.files.specs.declared.output.Form.the-variants.{Changes, Record, Explain}
 use Rattle.files.specs.declared.progress.Stage.{Stage}
 use Rattle.files.specs.declared.progress.Stage.the-variants.{Stopped}
 use Rattle.files.specs.declared.progress.Progress.{Progress}
@@ -17,11 +18,12 @@ use Rattle.text.specs.declared.lines.Closer.the-variants.{CrLf}
 use Rattle.text.specs.Lines.{linesFrom, Cutting, joined}
 use Rattle.text.specs.Cutter.{heldLine, cutterAfter}
 use Rattle.files.specs.Progress.{afterLine, wroteLine, refuseBy}
-use Rattle.files.specs.Replay.{Told, endAlone, writtenFirst, byLines, toldOf, lineLimit, freshReplay, afterLines, wroteLines, refuseIf, cutPortion, fed, fedAll, Reached, writes, lastProgress}
+use Rattle.files.specs.Replay.{Told, endAlone, writtenFirst, byLines, toldOf, lineLimit, freshReplay, afterLines, wroteLines, refuseIf, cutPortion, fed, fedAll, Reached, writes, lastProgress, isAnswered}
 use Rattle.files.specs.device.Calls.{Sound}
 use Rattle.text.proofs.CutLaws.{lines-nil, last-nothing, joined-none, joined-more}
 use Rattle.text.proofs.CuttingLaws.{cut-lines, all-read, long-held}
 use Rattle.text.proofs.KeptLaws.{empty-holds, line-kept, still-holds}
+use Rattle.files.proofs.QuietLaws.{quiet-after}
 use Rattle.files.proofs.RefusedLaws.{by-nil, stopped-ends, refused-ends, open-ends, long-ends}
 
 -- ---- a sound state stays sound
@@ -61,7 +63,7 @@ reached-sound r q h a = rw (a .state) (all-sound r (a .portions) h)
 first-twice : (v w : List ℕ) (x : Told) → writtenFirst v (writtenFirst w x) ≡ writtenFirst (v ++ w) x
 first-twice v w x = ap (λ (notes : List ℕ). record { notes = notes; end = x .end }) (sym (append-assoc v w (x .notes)))
 
-by-lines-append : (form : Form) (p : Progress) (ls ms : List (List ℕ)) → byLines form p (ls ++ ms) ≡ writtenFirst (wroteLines form p ls) (byLines form (afterLines p ls) ms)
+pub by-lines-append : (form : Form) (p : Progress) (ls ms : List (List ℕ)) → byLines form p (ls ++ ms) ≡ writtenFirst (wroteLines form p ls) (byLines form (afterLines p ls) ms)
 unfolding byLines wroteLines afterLines
 by-lines-append form p [] ms = refl
 by-lines-append form p (l ∷ ls) ms =
@@ -142,3 +144,15 @@ module _ (r : Replay) (n : ℕ) (e : r .progress .stage ≡ Stopped n) where
   unfolding left
   stop-early ps h =
       portions-left r ps h ∙ stopped-ends (r .form) (r .progress) n (linesFrom CrLf (heldLine (r .cutter)) (joined ps)) e ∙ sym (stopped-if (ltb 0 (r .cutter .count)))
+
+-- ---- once the asked row is explained, what follows need not be read
+
+answered-by : (form : Form) (p : Progress) (ls : List (List ℕ)) → isAnswered form (p .done) ≡ true → byLines form p ls .notes ≡ []
+answered-by Changes p ls e = absurd (false≢true e)
+answered-by Record p ls e = absurd (false≢true e)
+answered-by (Explain row) p ls e = quiet-after row p ls (leb-true row (p .done) e)
+
+pub answered-early : (r : Replay) (ps : List (List ℕ)) → Sound r → isAnswered (r .form) (r .progress .done) ≡ true → toldByPortions r ps .notes ≡ []
+unfolding left
+answered-early r ps h e =
+    ap (λ (x : Told). x .notes) (portions-left r ps h) ∙ answered-by (r .form) (r .progress) (linesFrom CrLf (heldLine (r .cutter)) (joined ps)) e

@@ -26,10 +26,10 @@ use Rattle.files.specs.device.Calls.{notedOf}
 -- the tick of an accepted row
 module _ (form : Form) (p : Progress) (x : Row) (t : RelayTicked) where
   module _ (e : t .refusal ≡ 0) where
-    pub tick-output : (out out' : List ℕ) (at : ℕ) → out' ≡ sets out at (noteOf form (p .done + 1) x (t .outputs) (p .outputs)) → out' ≡ sets out at (wroteTick form p x t)
+    pub tick-output : (out out' : List ℕ) (at : ℕ) → out' ≡ sets out at (noteOf form p x t) → out' ≡ sets out at (wroteTick form p x t)
     tick-output out out' at h = rw (eq-eqb (t .refusal) 0 e) h
 
-    pub tick-noted : (end at : ℕ) → end ≡ at + length (noteOf form (p .done + 1) x (t .outputs) (p .outputs)) → record { progress = rowDone p t; written = end } ≡ notedOf (afterTick p t) (wroteTick form p x t) at
+    pub tick-noted : (end at : ℕ) → end ≡ at + length (noteOf form p x t) → record { progress = rowDone p t; written = end } ≡ notedOf (afterTick p t) (wroteTick form p x t) at
     tick-noted end at h = rw (eq-eqb (t .refusal) 0 e, h)
 
   module _ (e : t .refusal ≡ 0 → ⊥) where

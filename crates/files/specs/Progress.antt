@@ -67,7 +67,7 @@ stepped p (row.Refused n) = stopped n p
 
 -- what the tick of a row writes: only one that is done writes anything
 abbrev pub wroteTick : Form → Progress → Row → RelayTicked → List ℕ
-wroteTick form p x t = cond (eqb (t .refusal) 0) (noteOf form (p .done + 1) x (t .outputs) (p .outputs)) []
+wroteTick form p x t = cond (eqb (t .refusal) 0) (noteOf form p x t) []
 
 abbrev pub noted : Form → Progress → RowRead → List ℕ
 noted form p (row.Accepted x) = wroteTick form p x (ticked p x)

@@ -1,6 +1,6 @@
--- The replay: what it writes of its whole input (01, 'Rows and the replay program'; 02, E1), and what feeding it by portions
--- answers. The laws `replay-of-calls` and `record-of-calls` say that the bytes so written, one after the other, are those of
--- `replayOf` and `recordOf`, however the input is cut.
+-- The replay: what it writes of its whole input (01, 'Rows and the replay program'; 02, E1 and E2), and what feeding it by
+-- portions answers. The laws `replay-of-calls`, `record-of-calls` and `explanation-of-calls` say that the bytes so written, one
+-- after the other, are those of `replayOf`, `recordOf` and `explanationOf`, however the input is cut.
 use mathlib.Core.Path.{_≡_}
 use mathlib.Core.Bool.{Bool, true, false, _&&_}
 use mathlib.Core.List.{List, [], _∷_, _++_}
@@ -11,7 +11,7 @@ use Rattle.text.specs.declared.lines.Closer.the-variants.{CrLf}
 use Rattle.text.specs.Lines.{linesOf, Cutting, cutting}
 use Rattle.text.specs.Cutter.{emptyCutter, heldLine, cutterAfter}
 use Rattle.files.specs.declared.output.Form.{Form}
-use Rattle.files.specs.declared.output.Form.the-variants.{Changes, Record}
+use Rattle.files.specs.declared.output.Form.the-variants.{Changes, Record, Explain}
 use Rattle.files.specs.declared.progress.Stage.{Stage}
 use Rattle.files.specs.declared.progress.Stage.the-variants.{Opening, Running, Stopped}
 use Rattle.files.specs.declared.progress.Progress.{Progress}
@@ -48,6 +48,10 @@ replayOf s = toldOf Changes s .notes ++ toldOf Changes s .end
 -- WHAT THE PROGRAM `record` WRITES, of its whole input: a row of the record for each row done
 abbrev pub recordOf : List ℕ → List ℕ
 recordOf s = toldOf Record s .notes
+
+-- WHAT THE PROGRAM `explain` WRITES for a row, of its whole input: the explanation of that row, where it is done
+abbrev pub explanationOf : ℕ → List ℕ → List ℕ
+explanationOf row s = toldOf (Explain row) s .notes
 
 -- ---- a state: the form, the progress, and the cutter that holds the line that has begun
 
@@ -154,3 +158,9 @@ abbrev pub isStopped : Stage → Bool
 isStopped Opening = false
 isStopped Running = false
 isStopped (Stopped n) = true
+
+-- whether the asked row was explained: no row after it writes anything
+abbrev pub isAnswered : Form → ℕ → Bool
+isAnswered Changes done = false
+isAnswered Record done = false
+isAnswered (Explain row) done = leb row done

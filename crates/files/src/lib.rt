@@ -1,9 +1,10 @@
-// Layer 4: the replay, and what it writes: change lines, or the record.
+// Layer 4: the replay, and what it writes: change lines, the record, or the explanation of a row.
 mod output;
 mod progress;
 mod replay;
 
 pub use output::END_ROOM;
+pub use output::EXPLAIN_SPREAD;
 pub use output::Form;
 pub use output::RECORD_SPREAD;
 pub use progress::Progress;
@@ -13,5 +14,6 @@ pub use replay::LONGEST_LINE;
 pub use replay::Replay;
 pub use replay::feed;
 pub use replay::finish;
+pub use replay::has_answered;
 pub use replay::has_stopped;
 pub use replay::refusal_at_end;

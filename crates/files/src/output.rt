@@ -1,25 +1,35 @@
-// What the rows write, by the form: change lines, or rows of the record; and the end line.
+// What the rows write, by the form: change lines, rows of the record, or the explanation of one row; and the end line.
 ghost use Prim.Native.Nat.{_+_, _≤_};
 ghost use lib.ListN.{length};
-ghost use Rattle.files.specs.Output.{pairLine, changeLine, changeRoom, changeOf, recordRow, noteOf, noteRoom, endLine, endRoom};
+ghost use Rattle.files.specs.Output.{pairLine, changeLine, changeRoom, changeOf, recordRow, explainedOf, noteOf, noteRoom};
+ghost use Rattle.files.specs.Output.{endLine, endRoom};
+ghost use Rattle.explanations.specs.Explanation.{explanationRoom};
 ghost use Rattle.rows.specs.Row.{lastRow};
 ghost use Rattle.records.specs.RecordRow.{recordText, longestRecord};
-ghost use Rattle.files.specs.declared.output.Form.the-variants.{Record};
+ghost use Rattle.files.specs.declared.output.Form.the-variants.{Record, Explain};
 ghost use Rattle.files.specs.device.Calls.{Notable};
 ghost use Rattle.text.specs.device.Calls.{Wrote, WroteWithin};
+use crate::progress::Progress;
+use explanations::put_explanation;
 use records::RecordRow;
 use records::write_row;
+use relay::tick::RelayTicked;
 use rows::Row;
 use text::number::put_decimal;
 
-// A line for each change of the output byte, or a row of the record for each row done.
+// A line for each change of the output byte; a row of the record for each row done; or the explanation of the row of that
+// number.
 pub enum Form {
     Changes,
     Record,
+    Explain(u32),
 }
 
 // A line of the input that writes a row of the record writes at most so many times its own bytes.
 pub const RECORD_SPREAD: usize = 5;
+
+// And so many times one that is explained.
+pub const EXPLAIN_SPREAD: usize = 46;
 
 // Room for any end line.
 pub const END_ROOM: usize = 26;
@@ -71,22 +81,33 @@ fn note_record(out: &mut [u8], at: usize, done: u32, x: Row, outputs: u8) -> usi
     written.place
 }
 
-// What the row after `done` rows writes, at a place.
+// The explanation of the asked row, and nothing for any other.
+fn note_explanation(out: &mut [u8], at: usize, row: u32, p: Progress, x: Row) -> usize
+    requires { ⌜ Notable (Explain row) (p .done) x at (length (now out)) ⌝ }
+    ensures { λ r. ⌜ WroteWithin explanationRoom (now (out .entry)) (now (out .exit)) at r (explainedOf row p x) ⌝ }
+{
+    if p.done + 1 != row {
+        return at;
+    }
+    put_explanation(out, at, p.settings, p.relay, x.l1, x.l2, x.l3, x.block)
+}
+
+// What the row after `p` writes, at a place, with its tick.
 pub(crate) fn note_row(
     form: Form,
     out: &mut [u8],
     at: usize,
-    done: u32,
+    p: Progress,
     x: Row,
-    outputs: u8,
-    before: u8,
+    t: RelayTicked,
 ) -> usize
-    requires { ⌜ Notable form done x at (length (now out)) ⌝ }
-    ensures { λ r. ⌜ WroteWithin (noteRoom form) (now (out .entry)) (now (out .exit)) at r (noteOf form (done + 1) x outputs before) ⌝ }
+    requires { ⌜ Notable form (p .done) x at (length (now out)) ⌝ }
+    ensures { λ r. ⌜ WroteWithin (noteRoom form) (now (out .entry)) (now (out .exit)) at r (noteOf form p x t) ⌝ }
 {
     match form {
-        Form::Changes => note_change(out, at, done + 1, outputs, before),
-        Form::Record => note_record(out, at, done, x, outputs),
+        Form::Changes => note_change(out, at, p.done + 1, t.outputs, p.outputs),
+        Form::Record => note_record(out, at, p.done, x, t.outputs),
+        Form::Explain(row) => note_explanation(out, at, row, p, x),
     }
 }
 

@@ -125,7 +125,7 @@ fn on_tick(form: Form, p: Progress, x: Row, t: RelayTicked, out: &mut [u8], at: 
             written: at,
         };
     }
-    let end = note_row(form, out, at, p.done, x, t.outputs, p.outputs);
+    let end = note_row(form, out, at, p, x, t);
     let done = p.done + 1;
     let settings = p.settings;
     let relay = t.state;

@@ -5,11 +5,12 @@ ghost use Prim.Native.Nat.{ℕ, _+_, _*_, _/_, _≤_, _<_};
 ghost use lib.ListN.{length, take};
 ghost use lib.Seq.{sets};
 ghost use Rattle.files.specs.Replay.{lineLimit, freshReplay, portionRoom, takes, feedAnswer, feedWrites};
-ghost use Rattle.files.specs.Replay.{lastProgress, refusalAtEnd, finishWrites, isStopped};
+ghost use Rattle.files.specs.Replay.{lastProgress, refusalAtEnd, finishWrites, isStopped, isAnswered};
 ghost use Rattle.files.specs.Output.{spread};
 ghost use Rattle.files.specs.Progress.{afterLine, wroteLine};
 ghost use Rattle.files.specs.device.Calls.{LineNoted, takenWith, PortionFed};
 use crate::output::END_ROOM;
+use crate::output::EXPLAIN_SPREAD;
 use crate::output::Form;
 use crate::output::RECORD_SPREAD;
 use crate::progress::Noted;
@@ -125,6 +126,7 @@ fn input_for(form: Form, room: usize) -> usize
     match form {
         Form::Changes => room,
         Form::Record => room / RECORD_SPREAD,
+        Form::Explain(_) => room / EXPLAIN_SPREAD,
     }
 }
 
@@ -139,7 +141,8 @@ fn takes_portion(form: Form, held: usize, portion: &[u8], room: usize) -> bool
 }
 
 // Feeds a portion of the input: what it writes stands at the front of `out`, and the other bytes of `out` stay. An `out` with
-// LONGEST_LINE bytes more than the portion suffices for change lines, and RECORD_SPREAD times as much for the record.
+// LONGEST_LINE bytes more than the portion suffices for change lines, RECORD_SPREAD times as much for the record, and
+// EXPLAIN_SPREAD times as much for an explanation.
 pub fn feed(state: Replay, portion: &[u8], out: &mut [u8]) -> Fed
     ensures answer { λ r. do
       room ← ⟦out.len()⟧ .entry
@@ -210,5 +213,18 @@ pub fn has_stopped(state: Replay) -> bool
         Stage::Opening => false,
         Stage::Running => false,
         Stage::Stopped(_) => true,
+    }
+}
+
+// Whether the asked row was explained: what follows of the input writes nothing any more.
+pub fn has_answered(state: Replay) -> bool
+    ensures { λ r. ⌜ r ≡ isAnswered (state .form) (state .progress .done) ⌝ }
+{
+    let form = state.form;
+    let done = state.progress.done;
+    match form {
+        Form::Changes => false,
+        Form::Record => false,
+        Form::Explain(row) => row <= done,
     }
 }

@@ -4,7 +4,7 @@ use Prim.Native.Nat.{ℕ, _≤_}
 use mathlib.Core.Bool.{Bool, true, false, cond}
 use mathlib.Core.List.{[], _∷_, map}
 use mathlib.Core.Path.{_≡_, refl, sym, _∙_, ap}
-use borrow.Author.Tests.{eq-eqb, ne-eqb}
+use borrow.Author.Tests.{eq-eqb, ne-eqb, le-leb}
 use lib.Dec.{leb, eqb}
 use Rattle.checks.specs.Checks.{check, firstFailed, lowest}
 use Rattle.checks.proofs.PassedLaws.{front-passed}
@@ -14,8 +14,10 @@ use Rattle.phase.specs.declared.settings.Settings.{Settings}
 use Rattle.phase.specs.declared.state.PhaseState.{PhaseState}
 use Rattle.phase.specs.declared.tick.Ticked.{Ticked}
 use Rattle.phase.specs.Operation.{kindOf}
+use Rattle.phase.specs.Settings.{settingsRefusal}
+use Rattle.phase.specs.State.{valid}
 use Rattle.phase.specs.Tick.{phaseChecks, tickRefusal, tickOf, tickAnswer}
-use Rattle.phase.proofs.Accepted.{phase-passed, tick-accepted}
+use Rattle.phase.proofs.Accepted.{accepted-settings, phase-passed, tick-accepted}
 use Rattle.why.specs.declared.answer.Explained.{Explained}
 use Rattle.why.specs.declared.answer.Explained.the-variants.{Because, Refused}
 use Rattle.why.specs.declared.reason.Reason.{Reason}
@@ -47,6 +49,11 @@ module _ (settings : Settings) (state : PhaseState) (block : ℕ) (e : whyRefusa
   pub start-only-bit : settings .«start_only» ≤ 1
   unfolding whyRefusal
   start-only-bit = phase-passed settings state _ e .0 .only
+
+-- accepted settings, a valid state and a right block are not refused
+pub why-allowed : (settings : Settings) (state : PhaseState) (block : ℕ) → settingsRefusal settings ≡ 0 → valid settings state ≡ true → block ≤ 1 → whyRefusal settings state block ≡ 0
+unfolding whyRefusal
+why-allowed settings state block e v b = rw (v, le-leb block 1 b) (accepted-settings settings e)
 
 -- ---- the answers
 

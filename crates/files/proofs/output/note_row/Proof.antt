@@ -1,7 +1,7 @@
 -- `files::output::note_row` meets its contract: by the form.
 -- Assumes nothing.
-use native.Mathlib.Omega.{arith}
 use borrow.Author.Needs.{needs}
+use native.Mathlib.Omega.{arith}
 use Rattle.files.proofs.output.note_row.Statement.{statement}
 use Rattle.files.proofs.output.note_row.Tie as tie
 
@@ -12,8 +12,8 @@ add-note-change : tie.Need-add-note-change
 add-note-change c = search needs
 
 note-change-requires : tie.Need-note-change-requires
-note-change-requires c κs =
-    let ready = rw (c .before .enum-told .given .1) at (c .before .before .before .before .pre) in
+note-change-requires c κs = 
+    let ready = rw (c .before .before .enum-told .given .1) at (c .before .before .before .before .before .pre) in
     (omega (arith, ready .number), ready .free)
 
 enum-told-2 : tie.Need-enum-told-2
@@ -22,17 +22,29 @@ enum-told-2 c = search needs
 note-record-requires : tie.Need-note-record-requires
 note-record-requires c κs = rw (c .before .enum-told2 .given .1) at (c .before .before .before .before .pre)
 
+enum-known-form : tie.Need-enum-known-form
+enum-known-form c = search needs
+
+note-explanation-requires : tie.Need-note-explanation-requires
+note-explanation-requires c κs = rw (c .before .before .form .given .1) at (c .before .before .before .before .before .pre)
+
 same-length : tie.Need-same-length
 same-length c = search needs
 
 returns : tie.Need-returns
-returns c = rw (c .before .before .before .before .enum-told .given .1) (c .before .before .note-change .ensures)
+returns c = rw (c .before .before .before .before .before .enum-told .given .1) (c .before .before .note-change .ensures)
 
 same-length-2 : tie.Need-same-length-2
 same-length-2 c = search needs
 
 returns-2 : tie.Need-returns-2
 returns-2 c = rw (c .before .before .before .before .enum-told2 .given .1) (c .before .before .note-record .ensures)
+
+same-length-3 : tie.Need-same-length-3
+same-length-3 c = search needs
+
+returns-3 : tie.Need-returns-3
+returns-3 c = rw (c .before .before .before .before .before .form .given .1) (c .before .before .note-explanation .ensures)
 
 pub note-row-spec : {M : Type 1} → statement M
 note-row-spec =
@@ -43,7 +55,11 @@ note-row-spec =
     note-change-requires
     enum-told-2
     note-record-requires
+    enum-known-form
+    note-explanation-requires
     same-length
     returns
     same-length-2
-    returns-2)
+    returns-2
+    same-length-3
+    returns-3)

@@ -1,0 +1,80 @@
+-- In an explanation every row is quiet but the asked one: the lines before it and after it write nothing.
+-- Assumes nothing.
+use Prim.Native.Nat.{ℕ, _+_, _≤_, _<_}
+use native.Mathlib.Omega.{arith}
+use mathlib.Core.Bool.{Bool, true, false, cond}
+use mathlib.Core.List.{List, [], _∷_}
+use mathlib.Core.Path.{_≡_, refl}
+use borrow.Author.Tests.{ne-eqb}
+use lib.Dec.{eqb}
+use Rattle.relay.specs.declared.tick.RelayTicked.{RelayTicked}
+use Rattle.rows.specs.declared.row.Row.{Row}
+use Rattle.rows.specs.declared.row.RowRead.{RowRead}
+use Rattle.rows.specs.declared.row.RowRead.the-variants as row-read
+use Rattle.rows.specs.declared.settings_line.SettingsRead.{SettingsRead}
+use Rattle.rows.specs.declared.settings_line.SettingsRead.the-variants as settings-line
+use Rattle.rows.specs.Row.{rowAnswer}
+use Rattle.rows.specs.SettingsLine.{settingsLineAnswer}
+use Rattle.files.specs.declared.output.Form.the-variants.{Explain}
+use Rattle.files.specs.declared.progress.Stage.{Stage}
+use Rattle.files.specs.declared.progress.Stage.the-variants.{Opening, Running, Stopped}
+use Rattle.files.specs.declared.progress.Progress.{Progress}
+use Rattle.files.specs.Output.{explainedOf}
+use Rattle.files.specs.Progress.{stopped, opened, ticked, rowDone, afterTick, stepped, wroteTick, noted, afterBy, afterLine, wroteBy, wroteLine}
+use Rattle.files.specs.Replay.{byLines, afterLines, wroteLines}
+
+-- ---- rows done never fall
+
+opened-done : (p : Progress) (answer : SettingsRead) → p .done ≤ opened p answer .done
+opened-done p (settings-line.Accepted x) = omega arith
+opened-done p (settings-line.Refused n) = omega arith
+
+done-if : (b : Bool) (p : Progress) (t : RelayTicked) → p .done ≤ cond b (rowDone p t) (stopped (t .refusal) p) .done
+done-if true p t = omega arith
+done-if false p t = omega arith
+
+stepped-done : (p : Progress) (answer : RowRead) → p .done ≤ stepped p answer .done
+stepped-done p (row-read.Accepted x) = done-if (eqb (ticked p x .refusal) 0) p (ticked p x)
+stepped-done p (row-read.Refused n) = omega arith
+
+line-done : (g : Stage) (p : Progress) (l : List ℕ) → p .done ≤ afterBy g p l .done
+unfolding afterBy
+line-done Opening p l = opened-done p (settingsLineAnswer l)
+line-done Running p l = stepped-done p (rowAnswer l (p .done))
+line-done (Stopped n) p l = omega arith
+
+lines-done : (p : Progress) (ls : List (List ℕ)) → p .done ≤ afterLines p ls .done
+unfolding afterLines
+lines-done p [] = omega arith
+lines-done p (l ∷ ls) = omega (arith, line-done (p .stage) p l, lines-done (afterLine p l) ls)
+
+-- ---- a line that does not bring the rows done from below the asked row to it
+
+module _ (row : ℕ) where
+  quiet-if : (b : Bool) (p : Progress) (x : Row) (t : RelayTicked) → (p .done < row → cond b (rowDone p t) (stopped (t .refusal) p) .done < row) → cond b (explainedOf row p x) [] ≡ []
+  quiet-if true p x t h = rw (ne-eqb (p .done + 1) row (λ e. omega (arith, e, h (omega (arith, e)))))
+  quiet-if false p x t h = refl
+
+  quiet-row : (p : Progress) (answer : RowRead) → (p .done < row → stepped p answer .done < row) → noted (Explain row) p answer ≡ []
+  quiet-row p (row-read.Accepted x) h = quiet-if (eqb (ticked p x .refusal) 0) p x (ticked p x) h
+  quiet-row p (row-read.Refused n) h = refl
+
+  quiet-line : (g : Stage) (p : Progress) (l : List ℕ) → (p .done < row → afterBy g p l .done < row) → wroteBy g (Explain row) p l ≡ []
+  unfolding afterBy wroteBy
+  quiet-line Opening p l h = refl
+  quiet-line Running p l h = quiet-row p (rowAnswer l (p .done)) h
+  quiet-line (Stopped n) p l h = refl
+
+  -- as long as it is not done
+  pub quiet-before : (p : Progress) (ls : List (List ℕ)) → afterLines p ls .done < row → wroteLines (Explain row) p ls ≡ []
+  unfolding afterLines wroteLines
+  quiet-before p [] h = refl
+  quiet-before p (l ∷ ls) h =
+      rw (quiet-line (p .stage) p l (λ k. omega (arith, h, lines-done (afterLine p l) ls)), quiet-before (afterLine p l) ls h)
+
+  -- and once it is
+  pub quiet-after : (p : Progress) (ls : List (List ℕ)) → row ≤ p .done → byLines (Explain row) p ls .notes ≡ []
+  unfolding byLines
+  quiet-after p [] h = refl
+  quiet-after p (l ∷ ls) h =
+      rw (quiet-line (p .stage) p l (λ k. absurd (omega (arith, h, k))), quiet-after (afterLine p l) ls (omega (arith, h, line-done (p .stage) p l)))
