@@ -17,7 +17,7 @@ use Rattle.files.specs.Output.{spread, endRoom}
 use Rattle.files.specs.Replay.{Told, writtenFirst, toldOf, replayOf, recordOf, explanationOf, longestLine, lineLimit, freshReplay, portionRoom, fed, writes, takes, fedBy, fedIf, feedAnswer, writesIf, feedWrites, endsWith, finishIf, finishWrites}
 use Rattle.files.specs.device.Calls.{Sound}
 use Rattle.checks.proofs.Tests.{both-true, leb-iff}
-use Rattle.files.proofs.PortionLaws.{fed-sound, fresh-sound, toldByPortions, told-of-portions}
+use Rattle.files.proofs.PortionLaws.{fed-form, fed-sound, fresh-sound, toldByPortions, told-of-portions}
 
 -- ---- feeding
 
@@ -38,10 +38,6 @@ pub input-room : (form : Form) (bytes room : ℕ) → leb bytes (room / spread f
 input-room Changes bytes room = leb-iff bytes (room / spread Changes) (spread Changes * bytes) room (λ h. omega arith) (λ h. omega arith)
 input-room Record bytes room = leb-iff bytes (room / spread Record) (spread Record * bytes) room (λ h. omega arith) (λ h. omega arith)
 input-room (Explain row) bytes room = leb-iff bytes (room / 46) (46 * bytes) room (λ h. omega arith) (λ h. omega arith)
-
-fed-form : (r : Replay) (s : List ℕ) → fed r s .form ≡ r .form
-unfolding fed
-fed-form r s = refl
 
 module _ (r : Replay) (s : List ℕ) (room : ℕ) where
   module _ (e : takes (r .form) (r .cutter .count) (length s) room ≡ true) where

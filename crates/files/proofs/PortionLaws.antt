@@ -37,6 +37,18 @@ fed-sound r s h = still-holds CrLf lineLimit (omega arith) (r .cutter) s h
 
 -- ---- states that come of another by some portions
 
+-- the form stays
+pub fed-form : (r : Replay) (s : List ℕ) → fed r s .form ≡ r .form
+unfolding fed
+fed-form r s = refl
+
+all-form : (r : Replay) (ps : List (List ℕ)) → fedAll r ps .form ≡ r .form
+all-form r [] = refl
+all-form r (p ∷ ps) = all-form (fed r p) ps ∙ fed-form r p
+
+pub reached-form : (r q : Replay) → Reached r q → q .form ≡ r .form
+reached-form r q a = ap (λ (x : Replay). x .form) (a .state) ∙ all-form r (a .portions)
+
 pub reached-here : (r : Replay) → Reached r r
 reached-here r = record { portions = []; state = refl }
 

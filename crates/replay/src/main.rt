@@ -2,9 +2,16 @@
 // recording was refused, on standard error.
 use files::END_ROOM;
 use files::Form;
+use files::LONGEST_LINE;
+use runs::PORTION;
+
+// Room for the change lines of a portion, whatever the state holds.
+const ROOM: usize = LONGEST_LINE + PORTION;
 
 fn main() {
-    let end = runs::run(Form::Changes);
+    let mut portion = [0u8; PORTION];
+    let mut changes = [0u8; ROOM];
+    let end = runs::run(Form::Changes, &mut portion, &mut changes);
     if end.failed {
         return;
     }

@@ -5,5 +5,6 @@ mod why;
 mod words;
 
 pub use portions::Ended;
+pub use portions::PORTION;
 pub use portions::run;
 pub use why::tell;

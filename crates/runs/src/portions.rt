@@ -1,8 +1,6 @@
 // The replay of standard input, portion by portion.
 use files::Fed;
 use files::Form;
-use files::LONGEST_LINE;
-use files::RECORD_SPREAD;
 use files::Replay;
 ghost use mathlib.Core.Path.{_≡_};
 ghost use Prim.Native.Nat.{_≤_};
@@ -25,10 +23,7 @@ struct Turn {
 }
 
 // "It reads input in portions of at most 64 KiB."
-const PORTION: usize = 65536;
-
-// Room for all that a portion writes, whatever the form and whatever the state holds.
-const ROOM: usize = RECORD_SPREAD * (LONGEST_LINE + PORTION);
+pub const PORTION: usize = 65536;
 
 // Every portion is taken: what it writes stands at the front of `out`.
 fn take_portion(state: Replay, portion: &[u8], out: &mut [u8]) -> Fed
@@ -40,7 +35,7 @@ fn take_portion(state: Replay, portion: &[u8], out: &mut [u8]) -> Fed
     files::feed(state, portion, out)
 }
 
-// Reads a portion into lent memory and writes what it gives. The memory is lent, since to make it anew at each turn is dear.
+// Reads a portion into lent memory and writes what it gives.
 fn one_turn(state: Replay, portion: &mut [u8], out: &mut [u8]) -> Turn
     requires { ⌜ (Sound state) × (portionRoom (state .form) longestLine (length (now portion)) ≤ length (now out)) ⌝ }
     ensures { λ r. ⌜ Reached state (r .state) ⌝ }
@@ -58,7 +53,7 @@ fn one_turn(state: Replay, portion: &mut [u8], out: &mut [u8]) -> Turn
     let w = t.written;
     let put = program::write_out(&out[..w]);
     let after = t.state;
-    let over = files::has_stopped(after);
+    let over = files::has_stopped(after) | files::has_answered(after);
     Turn {
         state: after,
         over,
@@ -66,18 +61,18 @@ fn one_turn(state: Replay, portion: &mut [u8], out: &mut [u8]) -> Turn
     }
 }
 
-// To the end of the input, or to a refusal, after which nothing would change. Of the input no contract can say more than that it
-// came in some portions.
-pub fn run(form: Form) -> Ended
+// To the end of the input, to a refusal, or to the row that was asked for: what follows would write nothing. Of the input no
+// contract can say more than that it came in some portions. The program lends the memory, since a form decides how much a
+// portion may write, and to make it anew at each turn is dear.
+pub fn run(form: Form, portion: &mut [u8], out: &mut [u8]) -> Ended
+    requires { ⌜ portionRoom form longestLine (length (now portion)) ≤ length (now out) ⌝ }
     ensures { λ r. ⌜ Reached (freshReplay form) (r .state) ⌝ }
 {
     let mut state = Replay::fresh(form);
-    let mut portion = [0u8; PORTION];
-    let mut out = [0u8; ROOM];
     // A function must be seen to end. No input has so many portions.
     let mut portions = u64::MAX;
     while portions > 0 {
-        let t = one_turn(state, &mut portion, &mut out);
+        let t = one_turn(state, portion, out);
         let after = t.state;
         state = after;
         if t.failed {

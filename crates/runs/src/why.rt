@@ -22,6 +22,7 @@ fn say_end_of_record(state: Replay) {
     match form {
         Form::Changes => {}
         Form::Record => say_end(state),
+        Form::Explain(_) => {}
     }
 }
 

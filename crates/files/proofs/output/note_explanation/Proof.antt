@@ -12,7 +12,7 @@ add-if1 : tie.Need-add-if1
 add-if1 c = search needs
 
 returns : tie.Need-returns
-returns c = 
+returns c =
     let a = c .before .before .before .args in
     rw (ne-eqb (a .p .done + 1) (a .row) (c .if1 .taken)) (wrote-nothing (a .out .now) (a .at) explanationRoom)
 
@@ -23,7 +23,7 @@ same-length : tie.Need-same-length
 same-length c = search needs
 
 returns-2 : tie.Need-returns-2
-returns-2 c = 
+returns-2 c =
     let a = c .before .before .before .before .before .before .before .args in
     rw (eq-eqb (a .p .done + 1) (a .row) (c .before .before .before .before .if1 .left)) (c .before .before .put-explanation .ensures)
 

@@ -12,7 +12,7 @@ add-note-change : tie.Need-add-note-change
 add-note-change c = search needs
 
 note-change-requires : tie.Need-note-change-requires
-note-change-requires c κs = 
+note-change-requires c κs =
     let ready = rw (c .before .before .enum-told .given .1) at (c .before .before .before .before .before .pre) in
     (omega (arith, ready .number), ready .free)
 

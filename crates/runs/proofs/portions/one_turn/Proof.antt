@@ -46,6 +46,9 @@ write-out-requires c κs = search needs
 has-stopped-requires : tie.Need-has-stopped-requires
 has-stopped-requires c κs = search needs
 
+has-answered-requires : tie.Need-has-answered-requires
+has-answered-requires c κs = search needs
+
 same-length-2 : tie.Need-same-length-2
 same-length-2 c = search needs
 
@@ -54,8 +57,9 @@ same-length-3 c = search needs
 
 returns-2 : tie.Need-returns-2
 returns-2 c =
-    let t = c .before .before .before .before .before .before .take-portion in
-    reached-fed (c .before .before .before .before .before .before .before .before .before .before .before .before .before .before .before .before .args .state) (t .result .state) _ (ap (λ (x : Fed). x .state) (t .ensures .0))
+    let t = c .before .before .before .before .before .before .before .take-portion in
+    let a = c .before .before .before .before .before .before .before .before .before .before .before .before .before .before .before .before .before .args in
+    reached-fed (a .state) (t .result .state) _ (ap (λ (x : Fed). x .state) (t .ensures .0))
 
 pub one-turn-spec : {M : Type 1} → statement M
 one-turn-spec =
@@ -71,6 +75,7 @@ one-turn-spec =
     slice-aggregate-write-out
     write-out-requires
     has-stopped-requires
+    has-answered-requires
     same-length-2
     same-length-3
     returns-2)

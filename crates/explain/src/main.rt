@@ -1,0 +1,49 @@
+// The program `explain ROW`: a recording on standard input, and for each phase a line on standard output that tells why it did
+// or did not trip in that row; where the recording was refused or has no such row, or a call of the system failed, one line on
+// standard error.
+mod asked;
+
+use asked::asked_row;
+use files::EXPLAIN_SPREAD;
+use files::Form;
+use files::LONGEST_LINE;
+use program::say;
+use program::say_number;
+
+// A portion is smaller than other programs': its rows could each write the explanation, as far as the room of an output goes.
+const PORTION: usize = 4096;
+
+const ROOM: usize = EXPLAIN_SPREAD * (LONGEST_LINE + PORTION);
+
+fn say_missing(row: u32, done: u32) {
+    say(b"the recording has no row ");
+    say_number(row as u64);
+    say(b"; rows done: ");
+    say_number(done as u64);
+    say(b"\n");
+}
+
+fn explain(row: u32) {
+    let mut portion = [0u8; PORTION];
+    let mut out = [0u8; ROOM];
+    let end = runs::run(Form::Explain(row), &mut portion, &mut out);
+    if end.failed {
+        return;
+    }
+    let state = end.state;
+    if files::has_answered(state) {
+        return;
+    }
+    if runs::tell(state) == 0 {
+        say_missing(row, state.progress.done);
+    }
+}
+
+fn main() {
+    let row = asked_row();
+    if row == 0 {
+        say(b"failed: explain takes one row number, 1 to 999999\n");
+        return;
+    }
+    explain(row);
+}
