@@ -1,8 +1,10 @@
 /*
- * The programs replay and record in plain C, over plain.c's tick. They share no
- * code with the proved ones, so that they can be compared.
- *   replay_plain replay   writes the changes and the end line
- *   replay_plain record   writes a row for each row done; says a refusal on standard error
+ * The programs replay, record and explain in plain C, over plain.c's tick. They
+ * share no code with the proved ones, so that they can be compared.
+ *   replay_plain replay        writes the changes and the end line
+ *   replay_plain record        writes a row for each row done; says a refusal on standard error
+ *   replay_plain explain ROW   writes why each phase did or did not trip in that row; says a
+ *                              refusal up to it, or that there is no such row, on standard error
  * Standard input to standard output. Words in quotes are the documents'.
  */
 #include "plain.h"
@@ -116,7 +118,48 @@ static uint32_t read_row(uint32_t last_number, struct row *row)
     return ACCEPTED;
 }
 
-/* ---- The replay and the record ---- */
+/* ---- Why a phase did or did not trip ---- */
+
+/*
+ * "the first reason that holds in this order", by document 01's rules from the
+ * phase after the tick: by rules 3 and 4 its run is 0 exactly where it is not started.
+ */
+static void write_reason(const struct plain_settings *set, const struct plain_phase *phase,
+                         uint64_t trip_level, uint8_t block)
+{
+    bool definite = set->operation == 1;
+    uint32_t delay = definite ? set->definite_delay : set->minimum_delay;
+    if (set->operation == 0)
+        printf("operation off");
+    else if (phase->run == 0)
+        printf("not started");
+    else if (set->start_only == 1)
+        printf("start only");
+    else if (phase->run < delay)
+        printf("too few ticks running, %u lacking", (unsigned)(delay - phase->run));
+    else if (!definite && phase->sum < trip_level)
+        printf("sum below the level, %llu lacking", (unsigned long long)(trip_level - phase->sum));
+    else if (block == 1)
+        printf("phase trip on, general trip blocked");
+    else
+        printf("tripped");
+}
+
+/* A line for each phase; its numbers are "those after the tick". */
+static void write_explanation(const struct plain_settings *set, const struct plain_phase phases[3],
+                              const struct row *row)
+{
+    uint64_t trip_level = (uint64_t)set->time_multiplier * 1000000000u;
+    for (int i = 0; i < 3; i++) {
+        printf("L%d: ", i + 1);
+        write_reason(set, &phases[i], trip_level, row->block);
+        printf("\tsample %u, run %u, drop %u, sum %llu, trip level %llu\n", (unsigned)row->g[i],
+               (unsigned)phases[i].run, (unsigned)phases[i].drop,
+               (unsigned long long)phases[i].sum, (unsigned long long)trip_level);
+    }
+}
+
+/* ---- The replay, the record and the explanation ---- */
 
 /*
  * "Row number, timestamp 1000 x (number - 1), the three currents, then eight status
@@ -131,52 +174,98 @@ static void write_record_row(unsigned number, const uint32_t g[3], uint8_t out)
     printf("\r\n");
 }
 
-/* Goes through the rows to the end of the input or to the first refusal, which it returns. */
-static uint32_t replay_rows(const struct plain_settings *set, bool record, uint32_t *rows_done)
+enum form { REPLAY, RECORD, EXPLAIN };
+
+/* What is written, and of the rows up to which; of the last one alone for an explanation. */
+struct asked {
+    enum form form;
+    uint32_t last_row;
+};
+
+/*
+ * Goes through the rows to the last one asked for, to the end of the input or to
+ * the first refusal, which it returns.
+ */
+static uint32_t replay_rows(const struct plain_settings *set, struct asked asked,
+                            uint32_t *rows_done)
 {
     struct plain_phase phases[3] = {{0, 0, 0}, {0, 0, 0}, {0, 0, 0}};
     uint8_t before = 0;
-    while (another_line()) {
+    while (*rows_done < asked.last_row && another_line()) {
         struct row row;
         uint32_t refusal = read_row(*rows_done, &row);
         if (refusal != ACCEPTED)
             return refusal;
         ++*rows_done;
         uint8_t out = plain_tick(set, phases, row.g, row.block);
-        if (record)
+        if (asked.form == RECORD)
             write_record_row(*rows_done, row.g, out);
-        else if (out != before)
+        else if (asked.form == REPLAY && out != before)
             printf("%u,%u\n", (unsigned)*rows_done, (unsigned)out);
+        else if (asked.form == EXPLAIN && *rows_done == asked.last_row)
+            write_explanation(set, phases, &row);
         before = out;
     }
     return ACCEPTED;
 }
 
-/* What the record says of a refusal is the proved one's line up to the words for a person. */
-static void write_end(bool record, unsigned rows_done, unsigned refusal)
+/* What is said of a refusal is the proved one's line up to the words for a person. */
+static void write_end(struct asked asked, bool settings_right, unsigned rows_done,
+                      unsigned refusal)
 {
-    if (!record)
+    if (asked.form == REPLAY)
         printf("end,%u,%u\n", rows_done, refusal);
-    else if (refusal != ACCEPTED)
+    else if (asked.form == RECORD && refusal != ACCEPTED)
         fprintf(stderr, "end,%u,%u: \n", rows_done, refusal);
+    else if (asked.form == EXPLAIN && !settings_right)
+        fprintf(stderr, "the settings line is refused with %u: \n", refusal);
+    else if (asked.form == EXPLAIN && refusal != ACCEPTED)
+        fprintf(stderr, "row %u is refused with %u: \n", rows_done + 1, refusal);
+    else if (asked.form == EXPLAIN && rows_done < asked.last_row)
+        fprintf(stderr, "the recording has no row %u; rows done: %u\n", (unsigned)asked.last_row,
+                rows_done);
+}
+
+static void answer(struct asked asked)
+{
+    struct plain_settings set;
+    uint32_t rows_done = 0;
+    uint32_t refusal = read_settings(&set);
+    bool settings_right = refusal == ACCEPTED;
+    if (settings_right) {
+        if (plain_needs_powers(&set))
+            plain_fill_powers();
+        refusal = replay_rows(&set, asked, &rows_done);
+    }
+    write_end(asked, settings_right, rows_done, refusal);
+}
+
+/* ---- The command ---- */
+
+/* Row 1 to 999999, in 1 to 6 digits; 0 for any other word. */
+static uint32_t row_number(const char *word)
+{
+    const uint8_t *at = (const uint8_t *)word;
+    uint64_t number;
+    return read_field(&at, 6, '\0', &number) ? (uint32_t)number : 0;
 }
 
 int main(int count, char **words)
 {
-    const char *form = count == 2 ? words[1] : "";
-    bool record = strcmp(form, "record") == 0;
-    if (!record && strcmp(form, "replay") != 0) {
-        fputs("usage: replay_plain replay|record\n", stderr);
+    const char *form = count > 1 ? words[1] : "";
+    struct asked asked = {REPLAY, UINT32_MAX};
+    if (strcmp(form, "explain") == 0) {
+        asked = (struct asked){EXPLAIN, count == 3 ? row_number(words[2]) : 0};
+        if (asked.last_row == 0) {
+            fputs("failed: explain takes one row number, 1 to 999999\n", stderr);
+            return 0; /* as the proved one, which has no status of its own */
+        }
+    } else if (count == 2 && strcmp(form, "record") == 0) {
+        asked.form = RECORD;
+    } else if (count != 2 || strcmp(form, "replay") != 0) {
+        fputs("usage: replay_plain replay|record|explain ROW\n", stderr);
         return 2;
     }
-    struct plain_settings set;
-    uint32_t rows_done = 0;
-    uint32_t refusal = read_settings(&set);
-    if (refusal == ACCEPTED) {
-        if (plain_needs_powers(&set))
-            plain_fill_powers();
-        refusal = replay_rows(&set, record, &rows_done);
-    }
-    write_end(record, rows_done, refusal);
+    answer(asked);
     return fflush(stdout) == 0 ? 0 : 1;
 }
