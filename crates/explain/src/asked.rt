@@ -1,14 +1,12 @@
 // The row that the program is asked for: its one argument.
-ghost use Prim.Native.Nat.{_≤_};
 use text::number::read_digits;
 
 // A row's number has so many digits at most.
 const WIDTH: usize = 6;
 
-// The number that a text of digits is, 0 where it is none or is too long.
-fn number_of(text: &[u8]) -> u32
-    ensures { λ r. ⌜ r ≤ 999999 ⌝ }
-{
+// The number that a text of digits is, 0 where it is none or is too long. No six digits give more than the second test lets
+// pass: it is there for the cast's proof.
+fn number_of(text: &[u8]) -> u32 {
     let digits = read_digits(text, 0, WIDTH);
     if digits.count != text.len() {
         return 0;
@@ -20,9 +18,7 @@ fn number_of(text: &[u8]) -> u32
 }
 
 // 0 where there is no argument, more than one, or one that is no row number.
-pub(crate) fn asked_row() -> u32
-    ensures { λ r. ⌜ r ≤ 999999 ⌝ }
-{
+pub(crate) fn asked_row() -> u32 {
     if os::arg_count() != 2 {
         return 0;
     }

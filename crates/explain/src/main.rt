@@ -10,10 +10,10 @@ use files::LONGEST_LINE;
 use program::say;
 use program::say_number;
 
-// A portion is smaller than other programs': its rows could each write the explanation, as far as the room of an output goes.
-const PORTION: usize = 4096;
+// The room is counted as if every row wrote an explanation, so a portion is smaller than in the other programs.
+const SMALL_PORTION: usize = 4096;
 
-const ROOM: usize = EXPLAIN_SPREAD * (LONGEST_LINE + PORTION);
+const ROOM: usize = EXPLAIN_SPREAD * (LONGEST_LINE + SMALL_PORTION);
 
 fn say_missing(row: u32, done: u32) {
     say(b"the recording has no row ");
@@ -24,7 +24,7 @@ fn say_missing(row: u32, done: u32) {
 }
 
 fn explain(row: u32) {
-    let mut portion = [0u8; PORTION];
+    let mut portion = [0u8; SMALL_PORTION];
     let mut out = [0u8; ROOM];
     let end = runs::run(Form::Explain(row), &mut portion, &mut out);
     if end.failed {

@@ -23,7 +23,9 @@ abbrev pub reasonLine : List ℕ → Settings → PhaseState → ℕ → ℕ →
 reasonLine name settings state g block =
     name ++ reasonText (reasonOf settings state g block) ++ numbersText g (nextState settings state g) (tripLevel settings)
 
-phase-explained : (name : List ℕ) (settings : Settings) (state : PhaseState) (g block : ℕ) → settingsRefusal settings ≡ 0 → valid settings state ≡ true → block ≤ 1 → phaseLine name settings state g block ≡ reasonLine name settings state g block
+phase-explained : (name : List ℕ) (settings : Settings) (state : PhaseState) (g block : ℕ)
+    → settingsRefusal settings ≡ 0 → valid settings state ≡ true → block ≤ 1
+    → phaseLine name settings state g block ≡ reasonLine name settings state g block
 phase-explained name settings state g block e v b =
     let accepted = why-allowed settings state block e v b in
     rw (why-accepted settings state g block accepted, tick-accepted settings state g (why-tick-accepted settings state block accepted))
@@ -34,7 +36,9 @@ explainedLines settings relay l1 l2 l3 block =
     ++ reasonLine (bytesOf "L2: ") settings (phaseOf relay 1) l2 block
     ++ reasonLine (bytesOf "L3: ") settings (phaseOf relay 2) l3 block
 
-pub lines-explained : (settings : Settings) (relay : RelayState) (l1 l2 l3 block : ℕ) → settingsRefusal settings ≡ 0 → validRelay settings relay ≡ true → block ≤ 1 → explanation settings relay l1 l2 l3 block ≡ explainedLines settings relay l1 l2 l3 block
+pub lines-explained : (settings : Settings) (relay : RelayState) (l1 l2 l3 block : ℕ)
+    → settingsRefusal settings ≡ 0 → validRelay settings relay ≡ true → block ≤ 1
+    → explanation settings relay l1 l2 l3 block ≡ explainedLines settings relay l1 l2 l3 block
 unfolding explanation
 lines-explained settings relay l1 l2 l3 block e v b =
     let each = each-valid settings relay v in

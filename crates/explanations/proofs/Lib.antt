@@ -1,1 +1,2 @@
 pub mod ExplanationLaws
+pub mod DecidedLaws

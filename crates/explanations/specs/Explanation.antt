@@ -1,5 +1,5 @@
 -- The explanation of a tick (02, E2: "tell why it did or didn't trip") as text: a line for each phase.
-use Prim.Native.Nat.{ℕ, _+_, _*_}
+use Prim.Native.Nat.{ℕ, _+_}
 use Prim.Native.String.{String}
 use mathlib.Core.List.{List, [], _++_}
 use Rattle.phase.specs.declared.settings.Settings.{Settings}
@@ -20,7 +20,7 @@ use Rattle.why.specs.Answer.{whyAnswer}
 abbrev pub lackingText : String → ℕ → List ℕ
 lackingText words n = bytesOf words ++ decimal n ++ bytesOf " lacking"
 
--- the reason, in the words of the paper
+-- the reason, all but in the words of the paper
 abbrev pub reasonText : Reason → List ℕ
 reasonText OperationOff = bytesOf "operation off"
 reasonText NotStarted = bytesOf "not started"
@@ -61,15 +61,19 @@ explanation settings relay l1 l2 l3 block =
 
 -- ---- how much room that takes: a decimal has at most 20 digits
 
+-- the longest is "too few ticks running, " with its number and " lacking"
 abbrev pub reasonRoom : ℕ
-reasonRoom = 51
+reasonRoom = 23 + 20 + 8
 
+-- each number with the word before it
 abbrev pub stateRoom : ℕ
-stateRoom = 79
+stateRoom = 6 + 20 + (7 + 20) + (6 + 20)
 
+-- and LF
 abbrev pub numbersRoom : ℕ
-numbersRoom = 141
+numbersRoom = 8 + 20 + stateRoom + (13 + 20) + 1
 
+-- "L1: " and so on
 abbrev pub lineRoom : ℕ
 lineRoom = 4 + reasonRoom + numbersRoom
 

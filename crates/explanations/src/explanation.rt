@@ -16,7 +16,7 @@ use text::number::put_decimal;
 use text::words::put_words;
 use why::Explained;
 use why::Reason;
-use why::explain;
+use why::why;
 
 // A number and the word before it, at a place; answers the place after them.
 fn put_named(out: &mut [u8], at: usize, word: &[u8], n: u64) -> usize
@@ -91,7 +91,7 @@ fn put_because(
 }
 
 // A refused explanation writes nothing.
-fn put_line(
+fn put_answer(
     out: &mut [u8],
     at: usize,
     name: &[u8],
@@ -121,10 +121,10 @@ fn put_phase(
     requires { ⌜ (length (now name) ≤ 4) × (at + lineRoom ≤ length (now out)) ⌝ }
     ensures { λ r. ⌜ WroteWithin lineRoom (now (out .entry)) (now (out .exit)) at r (phaseLine (now (name .entry)) settings state g block) ⌝ }
 {
-    let answer = explain(settings, state, g, block);
+    let answer = why(settings, state, g, block);
     let ticked = tick(settings, state, g);
     let after = ticked.state;
-    put_line(out, at, name, answer, g, after, trip_level(settings))
+    put_answer(out, at, name, answer, g, after, trip_level(settings))
 }
 
 // The lines of L1, L2, L3, by the relay's state before the tick; answers the place after them.

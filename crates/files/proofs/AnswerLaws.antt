@@ -37,7 +37,7 @@ read-less (Explain row) held read most room h k = omega arith
 pub input-room : (form : Form) (bytes room : ℕ) → leb bytes (room / spread form) ≡ leb (spread form * bytes) room
 input-room Changes bytes room = leb-iff bytes (room / spread Changes) (spread Changes * bytes) room (λ h. omega arith) (λ h. omega arith)
 input-room Record bytes room = leb-iff bytes (room / spread Record) (spread Record * bytes) room (λ h. omega arith) (λ h. omega arith)
-input-room (Explain row) bytes room = leb-iff bytes (room / 46) (46 * bytes) room (λ h. omega arith) (λ h. omega arith)
+input-room (Explain row) bytes room = leb-iff bytes (room / spread (Explain row)) (spread (Explain row) * bytes) room (λ h. omega arith) (λ h. omega arith)
 
 module _ (r : Replay) (s : List ℕ) (room : ℕ) where
   module _ (e : takes (r .form) (r .cutter .count) (length s) room ≡ true) where

@@ -1,20 +1,28 @@
 -- What the explanation of a row is, of the whole input.
 -- Assumes nothing.
-use Prim.Native.Nat.{ℕ, _+_, _<_}
+use Prim.Native.Nat.{ℕ, _+_, _≤_, _<_}
 use native.Mathlib.Omega.{arith}
+use mathlib.Core.Bool.{Bool, true, false, cond}
 use mathlib.Core.List.{List, [], _∷_, _++_, append-nil}
-use mathlib.Core.Path.{_≡_, sym, _∙_, ap}
-use borrow.Author.Tests.{eq-eqb}
+use mathlib.Core.Path.{_≡_, refl, sym, _∙_, ap}
+use borrow.Author.Tests.{eq-eqb, leb-true, leb-false}
+use lib.Dec.{leb, eqb}
 use Rattle.explanations.proofs.ExplanationLaws.{explainedLines, lines-explained}
+use Rattle.relay.specs.declared.tick.RelayTicked.{RelayTicked}
 use Rattle.rows.specs.declared.row.Row.{Row}
-use Rattle.rows.specs.declared.row.RowRead.the-variants.{Accepted}
+use Rattle.rows.specs.declared.row.RowRead.{RowRead}
+use Rattle.rows.specs.declared.row.RowRead.the-variants.{Accepted, Refused}
+use Rattle.rows.specs.declared.settings_line.SettingsRead.{SettingsRead}
+use Rattle.rows.specs.declared.settings_line.SettingsRead.the-variants as settings-line
 use Rattle.rows.specs.Row.{rowAnswer}
+use Rattle.rows.specs.SettingsLine.{settingsLineAnswer}
 use Rattle.text.specs.declared.lines.Closer.the-variants.{CrLf}
 use Rattle.text.specs.Lines.{linesOf}
 use Rattle.files.specs.declared.output.Form.the-variants.{Explain}
-use Rattle.files.specs.declared.progress.Stage.the-variants.{Running}
+use Rattle.files.specs.declared.progress.Stage.{Stage}
+use Rattle.files.specs.declared.progress.Stage.the-variants.{Opening, Running, Stopped}
 use Rattle.files.specs.declared.progress.Progress.{Progress}
-use Rattle.files.specs.Progress.{freshProgress, ticked, rowDone, afterLine, wroteBy, wroteLine}
+use Rattle.files.specs.Progress.{freshProgress, stopped, opened, ticked, rowDone, stepped, afterBy, afterLine, wroteBy, wroteLine}
 use Rattle.files.specs.Replay.{Told, byLines, toldOf, explanationOf, afterLines, wroteLines}
 use Rattle.files.proofs.NeverRefused.{row-allowed, no-tick-refused, accepted-row-is-done}
 use Rattle.files.proofs.PortionLaws.{by-lines-append}
@@ -33,6 +41,85 @@ pub no-explanation : (row : ℕ) (s : List ℕ) → afterLines freshProgress (li
 no-explanation row s h =
     let ls = linesOf CrLf s in
     explanation-from row s ls [] (sym (append-nil ls)) ∙ rw (quiet-before row freshProgress ls h, by-nil (Explain row) (afterLines freshProgress ls))
+
+-- ---- a row that is done stands in a line
+
+-- after the progress p: the lines before the row's, its line, those after, and the row that was read
+pub record RowIn (row : ℕ) (p : Progress) (lines : List (List ℕ)) : Type 0 where
+  pub before : List (List ℕ)
+  pub line : List ℕ
+  pub after : List (List ℕ)
+  pub x : Row
+  pub cut : lines ≡ before ++ (line ∷ after)
+  pub running : afterLines p before .stage ≡ Running
+  pub accepted : rowAnswer line (afterLines p before .done) ≡ Accepted x
+  pub asked : afterLines p before .done + 1 ≡ row
+
+-- a line does one row at most, and then it is an accepted one
+pub record OneRow (stage : Stage) (p : Progress) (l : List ℕ) : Type 0 where
+  pub running : stage ≡ Running
+  pub x : Row
+  pub accepted : rowAnswer l (p .done) ≡ Accepted x
+  pub most : afterBy stage p l .done ≤ p .done + 1
+
+opened-none : (p : Progress) (answer : SettingsRead) → opened p answer .done ≡ p .done
+opened-none p (settings-line.Accepted x) = refl
+opened-none p (settings-line.Refused n) = refl
+
+most-if : (b : Bool) (p : Progress) (t : RelayTicked) → cond b (rowDone p t) (stopped (t .refusal) p) .done ≤ p .done + 1
+most-if true p t = omega arith
+most-if false p t = omega arith
+
+row-done : (p : Progress) (l : List ℕ) (answer : RowRead) → rowAnswer l (p .done) ≡ answer → p .done < stepped p answer .done → OneRow Running p l
+unfolding afterBy
+row-done p l (Accepted x) e h = record { running = refl; x = x; accepted = e; most = rw e (most-if (eqb (ticked p x .refusal) 0) p (ticked p x)) }
+row-done p l (Refused n) e h = absurd (omega (arith, h))
+
+line-does : (stage : Stage) (p : Progress) (l : List ℕ) → p .done < afterBy stage p l .done → OneRow stage p l
+unfolding afterBy
+line-does Opening p l h = absurd (omega (arith, h, opened-none p (settingsLineAnswer l)))
+line-does Running p l h = row-done p l (rowAnswer l (p .done)) refl h
+line-does (Stopped n) p l h = absurd (omega (arith, h))
+
+module _ (row : ℕ) (p : Progress) (l : List ℕ) (ls : List (List ℕ)) where
+  row-here : p .done < row → row ≤ afterLine p l .done → RowIn row p (l ∷ ls)
+  unfolding afterLines
+  row-here low high =
+      let one = line-does (p .stage) p l (omega (arith, low, high)) in
+      record {
+        before = [];
+        line = l;
+        after = ls;
+        x = one .x;
+        cut = refl;
+        running = one .running;
+        accepted = one .accepted;
+        asked = omega (arith, low, high, one .most);
+      }
+
+  row-later : RowIn row (afterLine p l) ls → RowIn row p (l ∷ ls)
+  unfolding afterLines
+  row-later r = record {
+    before = l ∷ r .before;
+    line = r .line;
+    after = r .after;
+    x = r .x;
+    cut = ap (λ (others : List (List ℕ)). l ∷ others) (r .cut);
+    running = r .running;
+    accepted = r .accepted;
+    asked = r .asked;
+  }
+
+  row-by : (t : Bool) → leb row (afterLine p l .done) ≡ t → p .done < row → (afterLine p l .done < row → RowIn row (afterLine p l) ls)
+      → RowIn row p (l ∷ ls)
+  row-by true e low later = row-here low (leb-true row (afterLine p l .done) e)
+  row-by false e low later = row-later (later (leb-false row (afterLine p l .done) e))
+
+row-found : (row : ℕ) (p : Progress) (ls : List (List ℕ)) → p .done < row → row ≤ afterLines p ls .done → RowIn row p ls
+unfolding afterLines
+row-found row p [] low high = absurd (omega (arith, low, high))
+row-found row p (l ∷ ls) low high =
+    row-by row p l ls (leb row (afterLine p l .done)) refl low (λ k. row-found row (afterLine p l) ls k high)
 
 -- the line of the asked row, after the lines before it
 module _ (row : ℕ) (ls : List (List ℕ)) (l : List ℕ) (x : Row) where
@@ -56,5 +143,18 @@ module _ (row : ℕ) (ls : List (List ℕ)) (l : List ℕ) (x : Row) where
         → explanationOf row s ≡ explainedLines (before .settings) (before .relay) (x .l1) (x .l2) (x .l3) (x .block)
     explanation-of-row s ms cut =
         explanation-from row s ls (l ∷ ms) cut
-        ∙ rw (quiet-before row freshProgress ls (omega (arith, asked)), by-cons (Explain row) before l ms, row-writes, quiet-after row (afterLine before l) ms (omega (arith, done-after)))
-        (append-nil _)
+        ∙ rw (quiet-before row freshProgress ls (omega (arith, asked)), by-cons (Explain row) before l ms, row-writes)
+        (rw (quiet-after row (afterLine before l) ms (omega (arith, done-after))) (append-nil _))
+
+-- so every row done is explained: where the recording comes to it, its line was found and this is written of it
+pub record RowExplained (row : ℕ) (s : List ℕ) : Type 0 where
+  pub found : RowIn row freshProgress (linesOf CrLf s)
+  pub written :
+      let before : Progress = afterLines freshProgress (found .before) in
+      let x : Row = found .x in
+      explanationOf row s ≡ explainedLines (before .settings) (before .relay) (x .l1) (x .l2) (x .l3) (x .block)
+
+pub every-row-explained : (row : ℕ) (s : List ℕ) → 0 < row → row ≤ afterLines freshProgress (linesOf CrLf s) .done → RowExplained row s
+every-row-explained row s some high =
+    let r = row-found row freshProgress (linesOf CrLf s) some high in
+    record { found = r; written = explanation-of-row row (r .before) (r .line) (r .x) (r .running) (r .accepted) (r .asked) s (r .after) (r .cut) }

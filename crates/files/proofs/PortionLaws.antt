@@ -3,7 +3,7 @@
 use mathlib.Core.Path.{_≡_, refl, sym, ap, _∙_}
 use mathlib.Core.Bool.{Bool, true, false, false≢true}
 use mathlib.Core.List.{List, [], _∷_, _++_, append-assoc}
-use Prim.Native.Nat.{ℕ, _<_}
+use Prim.Native.Nat.{ℕ, _≤_, _<_}
 use native.Mathlib.Omega.{arith}
 use lib.Dec.{ltb}
 use lib.ListN.{length, length-take}
@@ -23,7 +23,7 @@ use Rattle.files.specs.device.Calls.{Sound}
 use Rattle.text.proofs.CutLaws.{lines-nil, last-nothing, joined-none, joined-more}
 use Rattle.text.proofs.CuttingLaws.{cut-lines, all-read, long-held}
 use Rattle.text.proofs.KeptLaws.{empty-holds, line-kept, still-holds}
-use Rattle.files.proofs.QuietLaws.{quiet-after}
+use Rattle.files.proofs.QuietLaws.{lines-done, refuse-if-done, quiet-before, quiet-after}
 use Rattle.files.proofs.RefusedLaws.{by-nil, stopped-ends, refused-ends, open-ends, long-ends}
 
 -- ---- a sound state stays sound
@@ -168,3 +168,27 @@ pub answered-early : (r : Replay) (ps : List (List ℕ)) → Sound r → isAnswe
 unfolding left
 answered-early r ps h e =
     ap (λ (x : Told). x .notes) (portions-left r ps h) ∙ answered-by (r .form) (r .progress) (linesFrom CrLf (heldLine (r .cutter)) (joined ps)) e
+
+-- ---- as long as the rows done have not come to it, nothing was written
+
+module _ (row : ℕ) where
+  fed-done : (r : Replay) (s : List ℕ) → fed r s .progress .done ≡ afterLines (r .progress) (cutPortion r s .lines) .done
+  unfolding fed
+  fed-done r s = refuse-if-done (cutPortion r s .tooLong) (afterLines (r .progress) (cutPortion r s .lines))
+
+  all-done : (r : Replay) (ps : List (List ℕ)) → r .progress .done ≤ fedAll r ps .progress .done
+  all-done r [] = omega arith
+  all-done r (p ∷ ps) = omega (arith, lines-done (r .progress) (cutPortion r p .lines), fed-done r p, all-done (fed r p) ps)
+
+  unanswered-writes : (r : Replay) (s : List ℕ) → r .form ≡ Explain row → fed r s .progress .done < row → writes r s ≡ []
+  unfolding writes
+  unanswered-writes r s e h =
+      ap (λ (form : Form). wroteLines form (r .progress) (cutPortion r s .lines)) e
+      ∙ quiet-before row (r .progress) (cutPortion r s .lines) (omega (arith, fed-done r s, h))
+
+  pub unanswered-quiet : (r : Replay) (ps : List (List ℕ)) → r .form ≡ Explain row → fedAll r ps .progress .done < row
+      → toldByPortions r ps .notes ≡ []
+  unfolding toldByPortions
+  unanswered-quiet r [] e h = refl
+  unanswered-quiet r (p ∷ ps) e h =
+      rw (unanswered-writes r p e (omega (arith, all-done (fed r p) ps, h))) (unanswered-quiet (fed r p) ps (fed-form r p ∙ e) h)

@@ -1,4 +1,5 @@
--- In an explanation every row is quiet but the asked one: the lines before it and after it write nothing.
+-- Rows done never fall; and in an explanation every row is quiet but the asked one: the lines before it and after it write
+-- nothing.
 -- Assumes nothing.
 use Prim.Native.Nat.{ℕ, _+_, _≤_, _<_}
 use native.Mathlib.Omega.{arith}
@@ -20,8 +21,8 @@ use Rattle.files.specs.declared.progress.Stage.{Stage}
 use Rattle.files.specs.declared.progress.Stage.the-variants.{Opening, Running, Stopped}
 use Rattle.files.specs.declared.progress.Progress.{Progress}
 use Rattle.files.specs.Output.{explainedOf}
-use Rattle.files.specs.Progress.{stopped, opened, ticked, rowDone, afterTick, stepped, wroteTick, noted, afterBy, afterLine, wroteBy, wroteLine}
-use Rattle.files.specs.Replay.{byLines, afterLines, wroteLines}
+use Rattle.files.specs.Progress.{stopped, opened, ticked, rowDone, stepped, noted, refuseBy, afterBy, afterLine, wroteBy}
+use Rattle.files.specs.Replay.{byLines, afterLines, wroteLines, refuseIf}
 
 -- ---- rows done never fall
 
@@ -43,15 +44,28 @@ line-done Opening p l = opened-done p (settingsLineAnswer l)
 line-done Running p l = stepped-done p (rowAnswer l (p .done))
 line-done (Stopped n) p l = omega arith
 
-lines-done : (p : Progress) (ls : List (List ℕ)) → p .done ≤ afterLines p ls .done
+pub lines-done : (p : Progress) (ls : List (List ℕ)) → p .done ≤ afterLines p ls .done
 unfolding afterLines
 lines-done p [] = omega arith
 lines-done p (l ∷ ls) = omega (arith, line-done (p .stage) p l, lines-done (afterLine p l) ls)
 
+-- a refusal does no row
+refuse-done : (g : Stage) (p : Progress) → refuseBy g p .done ≡ p .done
+unfolding refuseBy
+refuse-done Opening p = refl
+refuse-done Running p = refl
+refuse-done (Stopped n) p = refl
+
+pub refuse-if-done : (b : Bool) (p : Progress) → refuseIf b p .done ≡ p .done
+unfolding refuseIf
+refuse-if-done true p = refuse-done (p .stage) p
+refuse-if-done false p = refl
+
 -- ---- a line that does not bring the rows done from below the asked row to it
 
 module _ (row : ℕ) where
-  quiet-if : (b : Bool) (p : Progress) (x : Row) (t : RelayTicked) → (p .done < row → cond b (rowDone p t) (stopped (t .refusal) p) .done < row) → cond b (explainedOf row p x) [] ≡ []
+  quiet-if : (b : Bool) (p : Progress) (x : Row) (t : RelayTicked)
+      → (p .done < row → cond b (rowDone p t) (stopped (t .refusal) p) .done < row) → cond b (explainedOf row p x) [] ≡ []
   quiet-if true p x t h = rw (ne-eqb (p .done + 1) row (λ e. omega (arith, e, h (omega (arith, e)))))
   quiet-if false p x t h = refl
 
@@ -70,11 +84,13 @@ module _ (row : ℕ) where
   unfolding afterLines wroteLines
   quiet-before p [] h = refl
   quiet-before p (l ∷ ls) h =
-      rw (quiet-line (p .stage) p l (λ k. omega (arith, h, lines-done (afterLine p l) ls)), quiet-before (afterLine p l) ls h)
+      let here = quiet-line (p .stage) p l (λ k. omega (arith, h, lines-done (afterLine p l) ls)) in
+      rw (here, quiet-before (afterLine p l) ls h)
 
   -- and once it is
   pub quiet-after : (p : Progress) (ls : List (List ℕ)) → row ≤ p .done → byLines (Explain row) p ls .notes ≡ []
   unfolding byLines
   quiet-after p [] h = refl
   quiet-after p (l ∷ ls) h =
-      rw (quiet-line (p .stage) p l (λ k. absurd (omega (arith, h, k))), quiet-after (afterLine p l) ls (omega (arith, h, line-done (p .stage) p l)))
+      let here = quiet-line (p .stage) p l (λ k. absurd (omega (arith, h, k))) in
+      rw (here, quiet-after (afterLine p l) ls (omega (arith, h, line-done (p .stage) p l)))

@@ -159,7 +159,7 @@ isStopped Opening = false
 isStopped Running = false
 isStopped (Stopped n) = true
 
--- whether the asked row was explained: no row after it writes anything
+-- whether the rows done have come to the asked one: no row after it writes anything
 abbrev pub isAnswered : Form → ℕ → Bool
 isAnswered Changes done = false
 isAnswered Record done = false

@@ -28,7 +28,7 @@ pub enum Form {
 // A line of the input that writes a row of the record writes at most so many times its own bytes.
 pub const RECORD_SPREAD: usize = 5;
 
-// And so many times one that is explained.
+// A line of the input that is explained writes at most so many times its own bytes.
 pub const EXPLAIN_SPREAD: usize = 46;
 
 // Room for any end line.

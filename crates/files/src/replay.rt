@@ -216,7 +216,7 @@ pub fn has_stopped(state: Replay) -> bool
     }
 }
 
-// Whether the asked row was explained: what follows of the input writes nothing any more.
+// Whether the rows done have come to the one that was asked for: what follows of the input writes nothing any more.
 pub fn has_answered(state: Replay) -> bool
     ensures { λ r. ⌜ r ≡ isAnswered (state .form) (state .progress .done) ⌝ }
 {

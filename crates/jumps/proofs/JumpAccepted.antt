@@ -7,14 +7,14 @@ use mathlib.Core.Path.{_≡_, refl, sym, _∙_, ap}
 use borrow.Author.Tests.{leb-true, eq-eqb, ne-eqb}
 use lib.Dec.{leb}
 use Rattle.checks.specs.Checks.{check, firstFailed, lowest}
-use Rattle.checks.proofs.PassedLaws.{all-passed, front-passed}
+use Rattle.checks.proofs.PassedLaws.{all-passed}
 use Rattle.checks.proofs.LowestLaws.{IsLowest, lowest-is-least}
 use Rattle.phase.specs.declared.settings.Settings.{Settings}
 use Rattle.phase.specs.declared.state.PhaseState.{PhaseState}
 use Rattle.phase.specs.device.Ranges.{InRange}
 use Rattle.phase.specs.State.{valid}
 use Rattle.phase.specs.Tick.{phaseChecks, tickRefusal}
-use Rattle.phase.proofs.Accepted.{phase-passed}
+use Rattle.phase.proofs.Accepted.{phase-passed, phase-tick-accepted}
 use Rattle.jumps.specs.Refusals.{jumpTooLong}
 use Rattle.jumps.specs.Jump.{jumpLimit, jumpChecks, jumpRefusal, jumpOf, refusedJump, jumpAnswer}
 
@@ -27,9 +27,9 @@ jump-passed settings state count e =
 
 -- so a tick is accepted where a jump is
 pub jump-tick-accepted : (settings : Settings) (state : PhaseState) (count : ℕ) → jumpRefusal settings state count ≡ 0 → tickRefusal settings state ≡ 0
-unfolding jumpRefusal tickRefusal
+unfolding jumpRefusal
 jump-tick-accepted settings state count e =
-    front-passed (phaseChecks settings state) (lowest (check (leb count jumpLimit) jumpTooLong ∷ [])) refl e
+    phase-tick-accepted settings state (lowest (check (leb count jumpLimit) jumpTooLong ∷ [])) e
 
 -- the jump's refusal from that of its own check
 pub jump-refusal-by-parts : (settings : Settings) (state : PhaseState) (count own all : ℕ) → own ≡ lowest (check (leb count jumpLimit) jumpTooLong ∷ []) → all ≡ firstFailed (phaseChecks settings state) own → all ≡ jumpRefusal settings state count

@@ -7,7 +7,7 @@ use mathlib.Core.Path.{_≡_, refl, sym, _∙_, ap}
 use borrow.Author.Tests.{leb-true, eq-eqb, ne-eqb}
 use lib.Dec.{leb, eqb}
 use Rattle.checks.specs.Checks.{check, firstFailed}
-use Rattle.checks.proofs.PassedLaws.{all-passed}
+use Rattle.checks.proofs.PassedLaws.{all-passed, front-passed}
 use Rattle.checks.proofs.Tests.{both-true, in-range}
 use Rattle.phase.specs.declared.settings.Settings.{Settings}
 use Rattle.phase.specs.declared.state.PhaseState.{PhaseState}
@@ -72,6 +72,15 @@ phase-passed settings state rest e =
     let (range, others) = settings-passed settings _ e in
     let (own, after) = all-passed (check (valid settings state) invalidState ∷ []) rest refl others in
     (range, own .0, after)
+
+-- a tick is accepted where settings and state pass, whatever comes after them
+pub phase-tick-accepted : (settings : Settings) (state : PhaseState) (rest : ℕ) → firstFailed (phaseChecks settings state) rest ≡ 0 → tickRefusal settings state ≡ 0
+unfolding tickRefusal
+phase-tick-accepted settings state rest e = front-passed (phaseChecks settings state) rest refl e
+
+-- accepted settings and a valid state pass
+pub phase-allowed : (settings : Settings) (state : PhaseState) → settingsRefusal settings ≡ 0 → valid settings state ≡ true → firstFailed (phaseChecks settings state) 0 ≡ 0
+phase-allowed settings state e v = rw v (accepted-settings settings e)
 
 -- an accepted tick
 pub tick-passed : (settings : Settings) (state : PhaseState) → tickRefusal settings state ≡ 0 → InRange settings × (valid settings state ≡ true)

@@ -15,7 +15,7 @@ pub struct Ended {
     pub failed: bool,
 }
 
-// The state after a portion; whether there is nothing left to read, and whether a call of the system failed.
+// The state after a portion; whether nothing more need be read, and whether a call of the system failed.
 struct Turn {
     state: Replay,
     over: bool,

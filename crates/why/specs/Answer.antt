@@ -1,4 +1,4 @@
--- What the explanation of a tick answers (02, E2).
+-- What asking why answers (02, E2).
 use Prim.Native.Nat.{ℕ}
 use mathlib.Core.Bool.{cond}
 use mathlib.Core.List.{List, [], _∷_, _++_}
@@ -41,9 +41,9 @@ abbrev pub refusedNumbers : ℕ → WhyNumbers
 refusedNumbers refusal = record { refusal = refusal; place = 0; lacking = 0 }
 
 -- of each case of the answer
-abbrev pub numbersOf : Explained → WhyNumbers
-numbersOf (Because reason) = reasonNumbers reason
-numbersOf (Refused refusal) = refusedNumbers refusal
+abbrev pub explainedNumbers : Explained → WhyNumbers
+explainedNumbers (Because reason) = reasonNumbers reason
+explainedNumbers (Refused refusal) = refusedNumbers refusal
 
 unfoldable pub whyNumbers : Settings → PhaseState → ℕ → ℕ → WhyNumbers
 whyNumbers settings state g block =

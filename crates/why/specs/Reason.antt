@@ -15,7 +15,7 @@ use Rattle.phase.specs.Tick.{nextState, phaseStart, phaseTrip}
 use Rattle.why.specs.declared.reason.Reason.{Reason}
 use Rattle.why.specs.declared.reason.Reason.the-variants.{OperationOff, NotStarted, StartOnly, TooFewTicks, SumBelowLevel, Blocked, Tripped}
 
--- ---- what is asked of the state after the tick
+-- ---- what is asked of settings and of the state after a tick
 
 abbrev pub isOff : Kind → Bool
 isOff Off = true
@@ -27,6 +27,7 @@ abbrev pub delayOf : Timing → Settings → ℕ
 delayOf Definite settings = settings .«definite_delay»
 delayOf (Curve rule) settings = settings .«minimum_delay»
 
+-- Off never trips, whatever the ticks: no delay is looked at
 abbrev pub delayBy : Kind → Settings → ℕ
 delayBy Off settings = 0
 delayBy (On timing) settings = delayOf timing settings
@@ -52,17 +53,21 @@ sumLacking settings after = tripLevel settings - after .sum
 
 -- ---- the reasons
 
--- whether a reason is true of a tick: settings, state before it, sample, block
+-- whether a reason is true, by a tick's start and trip outputs, the state after it, and the block. One that lacks something is
+-- true with what is lacking, and with no other number.
+abbrev pub holdsBy : Settings → Bool → Bool → PhaseState → ℕ → Reason → Bool
+holdsBy settings start trip after block OperationOff = isOff (kindOf (settings .operation))
+holdsBy settings start trip after block NotStarted = not start
+holdsBy settings start trip after block StartOnly = eqb (settings .«start_only») 1
+holdsBy settings start trip after block (TooFewTicks n) = eqb n (ticksLacking settings after) && tooFewTicks settings after
+holdsBy settings start trip after block (SumBelowLevel n) = eqb n (sumLacking settings after) && sumBelowLevel settings after
+holdsBy settings start trip after block Blocked = trip && eqb block 1
+holdsBy settings start trip after block Tripped = trip
+
+-- of the tick that settings, a state and a sample give
 unfoldable pub holds : Settings → PhaseState → ℕ → ℕ → Reason → Bool
-holds settings state g block OperationOff = isOff (kindOf (settings .operation))
-holds settings state g block NotStarted = not (phaseStart settings state g)
-holds settings state g block StartOnly = eqb (settings .«start_only») 1
-holds settings state g block (TooFewTicks n) =
-    eqb n (ticksLacking settings (nextState settings state g)) && tooFewTicks settings (nextState settings state g)
-holds settings state g block (SumBelowLevel n) =
-    eqb n (sumLacking settings (nextState settings state g)) && sumBelowLevel settings (nextState settings state g)
-holds settings state g block Blocked = phaseTrip settings state g && eqb block 1
-holds settings state g block Tripped = phaseTrip settings state g
+holds settings state g block reason =
+    holdsBy settings (phaseStart settings state g) (phaseTrip settings state g) (nextState settings state g) block reason
 
 -- "in this order: operation off; not started; start only; too few ticks running ..; sum below the level ..; phase trip on but
 -- general trip blocked; tripped", each with what is lacking in the state after the tick

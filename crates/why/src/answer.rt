@@ -1,6 +1,6 @@
 // Why one tick of one phase did or did not trip.
 ghost use mathlib.Core.Path.{_≡_};
-ghost use Rattle.why.specs.Answer.{whyAnswer, numbersOf, whyNumbers};
+ghost use Rattle.why.specs.Answer.{whyAnswer, explainedNumbers, whyNumbers};
 use crate::reason::Reason;
 use crate::reason::reason_by;
 use crate::refusals::WRONG_BLOCK;
@@ -17,10 +17,11 @@ pub enum Explained {
     Refused(u32),
 }
 
-// Explains the tick that these settings, this state before it and this sample give, under a block byte. Nothing is changed.
-pub fn explain(settings: Settings, state: PhaseState, g: u32, block: u8) -> Explained
+// Why the tick that these settings, this state before it and this sample give did or did not trip, under a block byte. Asking
+// changes nothing.
+pub fn why(settings: Settings, state: PhaseState, g: u32, block: u8) -> Explained
     ensures answer { λ r. ⌜ r ≡ whyAnswer settings state g block ⌝ }
-    ensures numbers { λ r. ⌜ numbersOf r ≡ whyNumbers settings state g block ⌝ }
+    ensures numbers { λ r. ⌜ explainedNumbers r ≡ whyNumbers settings state g block ⌝ }
 {
     let refusal = phase_first_failed(settings, state, first_failed(block <= 1, WRONG_BLOCK, 0));
     if refusal != 0 {

@@ -4,5 +4,5 @@ mod reason;
 pub mod refusals;
 
 pub use answer::Explained;
-pub use answer::explain;
+pub use answer::why;
 pub use reason::Reason;

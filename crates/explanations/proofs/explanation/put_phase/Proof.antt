@@ -4,8 +4,8 @@ use borrow.Author.Needs.{needs}
 use Rattle.explanations.proofs.explanation.put_phase.Statement.{statement}
 use Rattle.explanations.proofs.explanation.put_phase.Tie as tie
 
-explain-requires : tie.Need-explain-requires
-explain-requires c κs = search needs
+why-requires : tie.Need-why-requires
+why-requires c κs = search needs
 
 tick-requires : tie.Need-tick-requires
 tick-requires c κs = search needs
@@ -13,22 +13,22 @@ tick-requires c κs = search needs
 trip-level-requires : tie.Need-trip-level-requires
 trip-level-requires c κs = search needs
 
-put-line-requires : tie.Need-put-line-requires
-put-line-requires c κs = search needs
+put-answer-requires : tie.Need-put-answer-requires
+put-answer-requires c κs = search needs
 
 same-length : tie.Need-same-length
 same-length c = search needs
 
 returns : tie.Need-returns
-returns c = rw (c .before .before .before .before .before .before .before .explain .ensures .0, c .before .before .before .before .before .before .tick .ensures, c .before .before .before .trip-level .ensures) at (c .before .before .put-line .ensures)
+returns c = rw (c .before .before .before .before .before .before .before .why .ensures .0, c .before .before .before .before .before .before .tick .ensures, c .before .before .before .trip-level .ensures) at (c .before .before .put-answer .ensures)
 
 pub put-phase-spec : {M : Type 1} → statement M
 put-phase-spec =
     tie.close
     (tie.spec
-    explain-requires
+    why-requires
     tick-requires
     trip-level-requires
-    put-line-requires
+    put-answer-requires
     same-length
     returns)

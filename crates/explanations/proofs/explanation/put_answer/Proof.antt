@@ -1,10 +1,10 @@
--- `explanations::explanation::put_line` meets its contract: by the answer.
+-- `explanations::explanation::put_answer` meets its contract: by the answer.
 -- Assumes nothing.
 use borrow.Author.Needs.{needs}
 use Rattle.text.proofs.StoreLaws.{wrote-nothing}
 use Rattle.explanations.specs.Explanation.{lineRoom}
-use Rattle.explanations.proofs.explanation.put_line.Statement.{statement}
-use Rattle.explanations.proofs.explanation.put_line.Tie as tie
+use Rattle.explanations.proofs.explanation.put_answer.Statement.{statement}
+use Rattle.explanations.proofs.explanation.put_answer.Tie as tie
 
 enum-known-answer : tie.Need-enum-known-answer
 enum-known-answer c = search needs
@@ -24,7 +24,7 @@ returns c = rw (c .before .before .before .before .before .answer .given .1) (c 
 returns-2 : tie.Need-returns-2
 returns-2 c = rw (c .enum-told .given .1) (wrote-nothing (c .before .before .before .before .args .out .now) (c .before .before .before .before .args .at) lineRoom)
 
-pub put-line-spec : {M : Type 1} → statement M
-put-line-spec =
+pub put-answer-spec : {M : Type 1} → statement M
+put-answer-spec =
     tie.close
     (tie.spec enum-known-answer put-because-requires enum-told same-length returns returns-2)

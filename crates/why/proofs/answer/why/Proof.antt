@@ -1,10 +1,10 @@
--- `why::answer::explain` meets its contract: asked first, then the reason of the tick.
+-- `why::answer::why` meets its contract: asked first, then the reason of the tick.
 -- Assumes nothing.
 use mathlib.Core.Path.{sym, _∙_}
 use borrow.Author.Needs.{needs}
 use Rattle.why.proofs.AnswerLaws.{why-refusal-by-parts, with-numbers, why-by-parts, why-refused}
-use Rattle.why.proofs.answer.explain.Statement.{statement}
-use Rattle.why.proofs.answer.explain.Tie as tie
+use Rattle.why.proofs.answer.why.Statement.{statement}
+use Rattle.why.proofs.answer.why.Tie as tie
 
 first-failed-requires : tie.Need-first-failed-requires
 first-failed-requires c κs = search needs
@@ -37,8 +37,8 @@ returns-2 c =
     with-numbers (a .settings) (a .state) (a .g) (a .block) _
     (why-by-parts (a .settings) (a .state) (a .g) (a .block) _ _ _ accepted (c .before .before .before .kind-of .ensures) (c .before .before .tick .ensures) (c .reason-by .ensures))
 
-pub explain-spec : {M : Type 1} → statement M
-explain-spec =
+pub why-spec : {M : Type 1} → statement M
+why-spec =
     tie.close
     (tie.spec
     first-failed-requires

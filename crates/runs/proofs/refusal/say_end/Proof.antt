@@ -1,12 +1,12 @@
--- `runs::why::say_end` is safe: the end line has room, and some bytes.
+-- `runs::refusal::say_end` is safe: the end line has room, and some bytes.
 -- Assumes nothing.
 use native.Mathlib.Omega.{arith}
 use lib.ListN.{length-take}
 use borrow.Author.Needs.{needs}
 use Rattle.files.specs.Output.{endRoom}
 use Rattle.files.proofs.AnswerLaws.{finish-some}
-use Rattle.runs.proofs.why.say_end.Statement.{statement}
-use Rattle.runs.proofs.why.say_end.Tie as tie
+use Rattle.runs.proofs.refusal.say_end.Statement.{statement}
+use Rattle.runs.proofs.refusal.say_end.Tie as tie
 
 slice-aggregate-finish : tie.Need-slice-aggregate-finish
 slice-aggregate-finish c = search needs
