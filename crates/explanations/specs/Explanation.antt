@@ -20,7 +20,7 @@ use Rattle.why.specs.Answer.{whyAnswer}
 abbrev pub lackingText : String → ℕ → List ℕ
 lackingText words n = bytesOf words ++ decimal n ++ bytesOf " lacking"
 
--- the reason, all but in the words of the paper
+-- the reason in the paper's words, but for one comma in place of a 'but'
 abbrev pub reasonText : Reason → List ℕ
 reasonText OperationOff = bytesOf "operation off"
 reasonText NotStarted = bytesOf "not started"
