@@ -8,7 +8,7 @@ use Rattle.phase.specs.Settings.{tripLevel}
 use Rattle.phase.specs.Tick.{tickAnswer}
 use Rattle.relay.specs.declared.state.RelayState.{RelayState}
 use Rattle.relay.specs.State.{phaseOf}
-use Rattle.text.specs.Number.{decimal}
+use Rattle.text.specs.Number.{decimal, decimalRoom}
 use Rattle.text.specs.Words.{bytesOf}
 use Rattle.why.specs.declared.answer.Explained.{Explained}
 use Rattle.why.specs.declared.answer.Explained.the-variants.{Because, Refused}
@@ -59,23 +59,26 @@ explanation settings relay l1 l2 l3 block =
     ++ phaseLine (bytesOf "L2: ") settings (phaseOf relay 1) l2 block
     ++ phaseLine (bytesOf "L3: ") settings (phaseOf relay 2) l3 block
 
--- ---- how much room that takes: a decimal has at most 20 digits
+-- ---- how much room that takes
 
 -- the longest is "too few ticks running, " with its number and " lacking"
 abbrev pub reasonRoom : ℕ
-reasonRoom = 23 + 20 + 8
+reasonRoom = 23 + decimalRoom + 8
 
 -- each number with the word before it
 abbrev pub stateRoom : ℕ
-stateRoom = 6 + 20 + (7 + 20) + (6 + 20)
+stateRoom = 6 + decimalRoom + (7 + decimalRoom) + (6 + decimalRoom)
 
 -- and LF
 abbrev pub numbersRoom : ℕ
-numbersRoom = 8 + 20 + stateRoom + (13 + 20) + 1
+numbersRoom = 8 + decimalRoom + stateRoom + (13 + decimalRoom) + 1
 
 -- "L1: " and so on
+abbrev pub nameRoom : ℕ
+nameRoom = 4
+
 abbrev pub lineRoom : ℕ
-lineRoom = 4 + reasonRoom + numbersRoom
+lineRoom = nameRoom + reasonRoom + numbersRoom
 
 abbrev pub explanationRoom : ℕ
 explanationRoom = lineRoom + lineRoom + lineRoom

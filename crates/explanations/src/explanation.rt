@@ -3,8 +3,8 @@ ghost use mathlib.Core.List.{_++_};
 ghost use Prim.Native.Nat.{_+_, _≤_};
 ghost use lib.ListN.{length};
 ghost use Rattle.explanations.specs.Explanation.{reasonText, stateText, numbersText, lineBy, phaseLine, explanation};
-ghost use Rattle.explanations.specs.Explanation.{reasonRoom, stateRoom, numbersRoom, lineRoom, explanationRoom};
-ghost use Rattle.text.specs.Number.{decimal};
+ghost use Rattle.explanations.specs.Explanation.{reasonRoom, stateRoom, numbersRoom, nameRoom, lineRoom, explanationRoom};
+ghost use Rattle.text.specs.Number.{decimal, decimalRoom};
 ghost use Rattle.text.specs.Words.{bytesOf};
 ghost use Rattle.text.specs.device.Calls.{WroteWithin};
 use phase::PhaseState;
@@ -20,18 +20,18 @@ use why::why;
 
 // A number and the word before it, at a place; answers the place after them.
 fn put_named(out: &mut [u8], at: usize, word: &[u8], n: u64) -> usize
-    requires { ⌜ at + (length (now word) + 20) ≤ length (now out) ⌝ }
+    requires { ⌜ at + (length (now word) + decimalRoom) ≤ length (now out) ⌝ }
     ensures { λ r.
-        ⌜ WroteWithin (length (now (word .entry)) + 20) (now (out .entry)) (now (out .exit)) at r (now (word .entry) ++ decimal n) ⌝ }
+        ⌜ WroteWithin (length (now (word .entry)) + decimalRoom) (now (out .entry)) (now (out .exit)) at r (now (word .entry) ++ decimal n) ⌝ }
 {
     let p = put_words(out, at, word);
     put_decimal(out, p, n)
 }
 
 fn put_lacking(out: &mut [u8], at: usize, words: &[u8], n: u64) -> usize
-    requires { ⌜ at + (length (now words) + 28) ≤ length (now out) ⌝ }
+    requires { ⌜ at + (length (now words) + decimalRoom + 8) ≤ length (now out) ⌝ }
     ensures { λ r.
-        ⌜ WroteWithin (length (now (words .entry)) + 28) (now (out .entry)) (now (out .exit)) at r (now (words .entry) ++ decimal n ++ bytesOf " lacking") ⌝ }
+        ⌜ WroteWithin (length (now (words .entry)) + decimalRoom + 8) (now (out .entry)) (now (out .exit)) at r (now (words .entry) ++ decimal n ++ bytesOf " lacking") ⌝ }
 {
     let p = put_named(out, at, words, n);
     put_words(out, p, b" lacking")
@@ -81,7 +81,7 @@ fn put_because(
     after: PhaseState,
     level: u64,
 ) -> usize
-    requires { ⌜ (length (now name) ≤ 4) × (at + lineRoom ≤ length (now out)) ⌝ }
+    requires { ⌜ (length (now name) ≤ nameRoom) × (at + lineRoom ≤ length (now out)) ⌝ }
     ensures { λ r.
         ⌜ WroteWithin lineRoom (now (out .entry)) (now (out .exit)) at r (now (name .entry) ++ reasonText reason ++ numbersText sample after level) ⌝ }
 {
@@ -100,7 +100,7 @@ fn put_answer(
     after: PhaseState,
     level: u64,
 ) -> usize
-    requires { ⌜ (length (now name) ≤ 4) × (at + lineRoom ≤ length (now out)) ⌝ }
+    requires { ⌜ (length (now name) ≤ nameRoom) × (at + lineRoom ≤ length (now out)) ⌝ }
     ensures { λ r. ⌜ WroteWithin lineRoom (now (out .entry)) (now (out .exit)) at r (lineBy answer (now (name .entry)) sample after level) ⌝ }
 {
     match answer {
@@ -118,7 +118,7 @@ fn put_phase(
     g: u32,
     block: u8,
 ) -> usize
-    requires { ⌜ (length (now name) ≤ 4) × (at + lineRoom ≤ length (now out)) ⌝ }
+    requires { ⌜ (length (now name) ≤ nameRoom) × (at + lineRoom ≤ length (now out)) ⌝ }
     ensures { λ r. ⌜ WroteWithin lineRoom (now (out .entry)) (now (out .exit)) at r (phaseLine (now (name .entry)) settings state g block) ⌝ }
 {
     let answer = why(settings, state, g, block);

@@ -2,18 +2,15 @@
 -- Assumes nothing.
 use Prim.Native.Nat.{ℕ, _+_, _≤_, _<_}
 use native.Mathlib.Omega.{arith}
-use mathlib.Core.Bool.{Bool, true, false, cond}
+use mathlib.Core.Bool.{Bool, true, false}
 use mathlib.Core.List.{List, [], _∷_, _++_, append-nil}
 use mathlib.Core.Path.{_≡_, refl, sym, _∙_, ap}
 use borrow.Author.Tests.{eq-eqb, leb-true, leb-false}
-use lib.Dec.{leb, eqb}
+use lib.Dec.{leb}
 use Rattle.explanations.proofs.ExplanationLaws.{explainedLines, lines-explained}
-use Rattle.relay.specs.declared.tick.RelayTicked.{RelayTicked}
 use Rattle.rows.specs.declared.row.Row.{Row}
 use Rattle.rows.specs.declared.row.RowRead.{RowRead}
 use Rattle.rows.specs.declared.row.RowRead.the-variants.{Accepted, Refused}
-use Rattle.rows.specs.declared.settings_line.SettingsRead.{SettingsRead}
-use Rattle.rows.specs.declared.settings_line.SettingsRead.the-variants as settings-line
 use Rattle.rows.specs.Row.{rowAnswer}
 use Rattle.rows.specs.SettingsLine.{settingsLineAnswer}
 use Rattle.text.specs.declared.lines.Closer.the-variants.{CrLf}
@@ -22,11 +19,11 @@ use Rattle.files.specs.declared.output.Form.the-variants.{Explain}
 use Rattle.files.specs.declared.progress.Stage.{Stage}
 use Rattle.files.specs.declared.progress.Stage.the-variants.{Opening, Running, Stopped}
 use Rattle.files.specs.declared.progress.Progress.{Progress}
-use Rattle.files.specs.Progress.{freshProgress, stopped, opened, ticked, rowDone, stepped, afterBy, afterLine, wroteBy, wroteLine}
+use Rattle.files.specs.Progress.{freshProgress, stepped, afterBy, afterLine, wroteBy, wroteLine}
 use Rattle.files.specs.Replay.{Told, byLines, toldOf, explanationOf, afterLines, wroteLines}
 use Rattle.files.proofs.NeverRefused.{row-allowed, no-tick-refused, accepted-row-is-done}
 use Rattle.files.proofs.PortionLaws.{by-lines-append}
-use Rattle.files.proofs.QuietLaws.{quiet-before, quiet-after}
+use Rattle.files.proofs.QuietLaws.{opened-done, line-done, quiet-before, quiet-after}
 use Rattle.files.proofs.RefusedLaws.{by-cons, by-nil}
 
 -- the lines before some, and those
@@ -55,29 +52,19 @@ pub record RowIn (row : ℕ) (p : Progress) (lines : List (List ℕ)) : Type 0 w
   pub accepted : rowAnswer line (afterLines p before .done) ≡ Accepted x
   pub asked : afterLines p before .done + 1 ≡ row
 
--- a line does one row at most, and then it is an accepted one
-pub record OneRow (stage : Stage) (p : Progress) (l : List ℕ) : Type 0 where
-  pub running : stage ≡ Running
-  pub x : Row
-  pub accepted : rowAnswer l (p .done) ≡ Accepted x
-  pub most : afterBy stage p l .done ≤ p .done + 1
+-- a line that does a row is an accepted one
+record DoesRow (stage : Stage) (p : Progress) (l : List ℕ) : Type 0 where
+  running : stage ≡ Running
+  x : Row
+  accepted : rowAnswer l (p .done) ≡ Accepted x
 
-opened-none : (p : Progress) (answer : SettingsRead) → opened p answer .done ≡ p .done
-opened-none p (settings-line.Accepted x) = refl
-opened-none p (settings-line.Refused n) = refl
-
-most-if : (b : Bool) (p : Progress) (t : RelayTicked) → cond b (rowDone p t) (stopped (t .refusal) p) .done ≤ p .done + 1
-most-if true p t = omega arith
-most-if false p t = omega arith
-
-row-done : (p : Progress) (l : List ℕ) (answer : RowRead) → rowAnswer l (p .done) ≡ answer → p .done < stepped p answer .done → OneRow Running p l
-unfolding afterBy
-row-done p l (Accepted x) e h = record { running = refl; x = x; accepted = e; most = rw e (most-if (eqb (ticked p x .refusal) 0) p (ticked p x)) }
+row-done : (p : Progress) (l : List ℕ) (answer : RowRead) → rowAnswer l (p .done) ≡ answer → p .done < stepped p answer .done → DoesRow Running p l
+row-done p l (Accepted x) e h = record { running = refl; x = x; accepted = e }
 row-done p l (Refused n) e h = absurd (omega (arith, h))
 
-line-does : (stage : Stage) (p : Progress) (l : List ℕ) → p .done < afterBy stage p l .done → OneRow stage p l
+line-does : (stage : Stage) (p : Progress) (l : List ℕ) → p .done < afterBy stage p l .done → DoesRow stage p l
 unfolding afterBy
-line-does Opening p l h = absurd (omega (arith, h, opened-none p (settingsLineAnswer l)))
+line-does Opening p l h = absurd (omega (arith, h, opened-done p (settingsLineAnswer l)))
 line-does Running p l h = row-done p l (rowAnswer l (p .done)) refl h
 line-does (Stopped n) p l h = absurd (omega (arith, h))
 
@@ -85,16 +72,16 @@ module _ (row : ℕ) (p : Progress) (l : List ℕ) (ls : List (List ℕ)) where
   row-here : p .done < row → row ≤ afterLine p l .done → RowIn row p (l ∷ ls)
   unfolding afterLines
   row-here low high =
-      let one = line-does (p .stage) p l (omega (arith, low, high)) in
+      let does = line-does (p .stage) p l (omega (arith, low, high)) in
       record {
         before = [];
         line = l;
         after = ls;
-        x = one .x;
+        x = does .x;
         cut = refl;
-        running = one .running;
-        accepted = one .accepted;
-        asked = omega (arith, low, high, one .most);
+        running = does .running;
+        accepted = does .accepted;
+        asked = omega (arith, low, high, line-done (p .stage) p l .high);
       }
 
   row-later : RowIn row (afterLine p l) ls → RowIn row p (l ∷ ls)

@@ -1,5 +1,5 @@
--- Rows done never fall; and in an explanation every row is quiet but the asked one: the lines before it and after it write
--- nothing.
+-- A line does one row at most; and in an explanation every row is quiet but the asked one: the lines before it and after it
+-- write nothing.
 -- Assumes nothing.
 use Prim.Native.Nat.{ℕ, _+_, _≤_, _<_}
 use native.Mathlib.Omega.{arith}
@@ -24,30 +24,35 @@ use Rattle.files.specs.Output.{explainedOf}
 use Rattle.files.specs.Progress.{stopped, opened, ticked, rowDone, stepped, noted, refuseBy, afterBy, afterLine, wroteBy}
 use Rattle.files.specs.Replay.{byLines, afterLines, wroteLines, refuseIf}
 
--- ---- rows done never fall
+-- ---- rows done: a line does one row at most, and they never fall
 
-opened-done : (p : Progress) (answer : SettingsRead) → p .done ≤ opened p answer .done
-opened-done p (settings-line.Accepted x) = omega arith
-opened-done p (settings-line.Refused n) = omega arith
+pub record OneMore (before after : ℕ) : Type 0 where
+  pub low : before ≤ after
+  pub high : after ≤ before + 1
 
-done-if : (b : Bool) (p : Progress) (t : RelayTicked) → p .done ≤ cond b (rowDone p t) (stopped (t .refusal) p) .done
-done-if true p t = omega arith
-done-if false p t = omega arith
+-- a settings line does none
+pub opened-done : (p : Progress) (answer : SettingsRead) → opened p answer .done ≡ p .done
+opened-done p (settings-line.Accepted x) = refl
+opened-done p (settings-line.Refused n) = refl
 
-stepped-done : (p : Progress) (answer : RowRead) → p .done ≤ stepped p answer .done
+done-if : (b : Bool) (p : Progress) (t : RelayTicked) → OneMore (p .done) (cond b (rowDone p t) (stopped (t .refusal) p) .done)
+done-if true p t = record { low = omega arith; high = omega arith }
+done-if false p t = record { low = omega arith; high = omega arith }
+
+stepped-done : (p : Progress) (answer : RowRead) → OneMore (p .done) (stepped p answer .done)
 stepped-done p (row-read.Accepted x) = done-if (eqb (ticked p x .refusal) 0) p (ticked p x)
-stepped-done p (row-read.Refused n) = omega arith
+stepped-done p (row-read.Refused n) = record { low = omega arith; high = omega arith }
 
-line-done : (g : Stage) (p : Progress) (l : List ℕ) → p .done ≤ afterBy g p l .done
+pub line-done : (g : Stage) (p : Progress) (l : List ℕ) → OneMore (p .done) (afterBy g p l .done)
 unfolding afterBy
-line-done Opening p l = opened-done p (settingsLineAnswer l)
+line-done Opening p l = rw (opened-done p (settingsLineAnswer l)) (record { low = omega arith; high = omega arith })
 line-done Running p l = stepped-done p (rowAnswer l (p .done))
-line-done (Stopped n) p l = omega arith
+line-done (Stopped n) p l = record { low = omega arith; high = omega arith }
 
 pub lines-done : (p : Progress) (ls : List (List ℕ)) → p .done ≤ afterLines p ls .done
 unfolding afterLines
 lines-done p [] = omega arith
-lines-done p (l ∷ ls) = omega (arith, line-done (p .stage) p l, lines-done (afterLine p l) ls)
+lines-done p (l ∷ ls) = omega (arith, line-done (p .stage) p l .low, lines-done (afterLine p l) ls)
 
 -- a refusal does no row
 refuse-done : (g : Stage) (p : Progress) → refuseBy g p .done ≡ p .done
@@ -93,4 +98,4 @@ module _ (row : ℕ) where
   quiet-after p [] h = refl
   quiet-after p (l ∷ ls) h =
       let here = quiet-line (p .stage) p l (λ k. absurd (omega (arith, h, k))) in
-      rw (here, quiet-after (afterLine p l) ls (omega (arith, h, line-done (p .stage) p l)))
+      rw (here, quiet-after (afterLine p l) ls (omega (arith, h, line-done (p .stage) p l .low)))

@@ -34,6 +34,9 @@ decimalIn (suc n) v = cond (ltb v 10) ((48 + v) ∷ []) (decimalIn n (v / 10) ++
 abbrev pub decimal : ℕ → List ℕ
 decimal v = decimalIn 19 v
 
+abbrev pub decimalRoom : ℕ
+decimalRoom = 20
+
 -- ---- what the reader of digits goes by
 
 -- as many digits as it takes: their number fits in 64 bits

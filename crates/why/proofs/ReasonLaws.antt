@@ -137,6 +137,9 @@ zero-or-one n h = go (eqb n 1) refl
     go true e = ne-eqb n 0 (λ z. omega (arith, z, eqb-true n 1 e))
     go false e = eq-eqb n 0 (omega (arith, h, eqb-false n 1 e))
 
+itself : (n : ℕ) → eqb n n ≡ true
+itself n = eq-eqb n n refl
+
 module _ (settings : Settings) (state : PhaseState) (g block : ℕ) (only-bit : settings .«start_only» ≤ 1) where
   abbrev kind : Kind
   kind = kindOf (settings .operation)
@@ -162,9 +165,6 @@ module _ (settings : Settings) (state : PhaseState) (g block : ℕ) (only-bit : 
   abbrev blocked : Bool
   blocked = eqb block 1
 
-  own : (n : ℕ) → eqb n n ≡ true
-  own n = eq-eqb n n refl
-
   -- rule 5 of the tick, in the tests of the reasons
   on-trips : (timing : Timing) → kind ≡ On timing → trip ≡ trips start only few below
   on-trips Definite e =
@@ -182,7 +182,7 @@ module _ (settings : Settings) (state : PhaseState) (g block : ℕ) (only-bit : 
       → reasonOf settings state g block ≡ decided start only few below blocked (ticksLacking settings after) (sumLacking settings after)
   unfolding reasonOf holds
   on-reason timing e =
-      rw (ap isOff e, on-trips timing e, own (ticksLacking settings after), own (sumLacking settings after))
+      rw (ap isOff e, on-trips timing e, itself (ticksLacking settings after), itself (sumLacking settings after))
       (same-reason start only few below blocked (ticksLacking settings after) (sumLacking settings after))
 
   off-reason : kind ≡ Off → reasonOf settings state g block ≡ OperationOff
@@ -209,7 +209,7 @@ module _ (settings : Settings) (state : PhaseState) (g block : ℕ) (only-bit : 
   unfolding holds
   some-by Off e = rw (ap isOff e)
   some-by (On timing) e =
-      rw (ap isOff e, on-trips timing e, own (ticksLacking settings after), own (sumLacking settings after))
+      rw (ap isOff e, on-trips timing e, itself (ticksLacking settings after), itself (sumLacking settings after))
       (some-holds start only few below blocked)
 
   pub reason-is-first : FirstOf (holds settings state g block) (reasonsFor settings after) (reasonOf settings state g block)

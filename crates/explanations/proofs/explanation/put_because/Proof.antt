@@ -3,6 +3,7 @@
 use borrow.Author.Needs.{needs}
 use native.Mathlib.Omega.{arith}
 use Rattle.text.proofs.StoreLaws.{wrote-within, within-then}
+use Rattle.explanations.specs.Explanation.{nameRoom}
 use Rattle.explanations.proofs.explanation.put_because.Statement.{statement}
 use Rattle.explanations.proofs.explanation.put_because.Tie as tie
 
@@ -20,7 +21,7 @@ same-length c = search needs
 
 returns : tie.Need-returns
 returns c =
-    let name = wrote-within 4 (c .before .before .before .before .before .before .before .before .before .before .put-words .ensures) (omega (arith, c .before .before .before .before .before .before .before .before .before .before .before .before .before .before .pre .0)) in
+    let name = wrote-within nameRoom (c .before .before .before .before .before .before .before .before .before .before .put-words .ensures) (omega (arith, c .before .before .before .before .before .before .before .before .before .before .before .before .before .before .pre .0)) in
     within-then (within-then name (c .before .before .before .before .before .before .put-reason .ensures)) (c .before .before .put-numbers .ensures)
 
 pub put-because-spec : {M : Type 1} → statement M
