@@ -3,14 +3,14 @@
  * output byte and the states.
  *
  * Definite time, 200 % of rated current, 40 ms: L1 is just above the setting
- * for 40 ticks and on it for one more, so it starts at tick 1, trips at tick
- * 40 and is off again at tick 41.
+ * for 40 ticks, at 95 % of it for one more and then below that, so it starts at
+ * tick 1, trips at tick 40, stays so at tick 41 and is off again at tick 42.
  */
 #include "overcurrent.h"
 
 #include <stdio.h>
 
-enum { TICKS = 41 };
+enum { TICKS = 42 };
 
 static uint8_t l1[4 * TICKS], l2[4 * TICKS], l3[4 * TICKS];
 static uint8_t block[TICKS];
@@ -65,7 +65,7 @@ int main(void)
     }
 
     for (size_t tick = 0; tick < TICKS; tick++)
-        put_current(l1, tick, tick < 40 ? 20001 : 20000);
+        put_current(l1, tick, tick < 40 ? 20001 : tick == 40 ? 19000 : 18999);
 
     refusal = oc_batch(operation, start_current, time_multiplier, minimum_delay, definite_delay,
                        reset_time, start_only, l1, sizeof l1, l2, sizeof l2, l3, sizeof l3,
@@ -78,6 +78,7 @@ int main(void)
     print_output(1);
     print_output(40);
     print_output(41);
+    print_output(42);
     print_states();
     return 0;
 }

@@ -79,7 +79,13 @@ enum oc_refusal {
     OC_BAD_BLOCK = 14 /* a block byte, the last one included, is not 0 or 1 */
 };
 
-/* One tick's output byte. The eight status fields of a row of the record are these bits, in this order. */
+/*
+ * One tick's output byte. The eight status fields of a row of the record are these bits, in this order.
+ *
+ * A phase starts at a current above 100 x start_current, and stays started
+ * until one is below 95 x start_current: it was started on its last tick
+ * exactly if `run` in its state is above 0.
+ */
 enum oc_output {
     OC_START_L1 = 1,
     OC_START_L2 = 2,

@@ -312,7 +312,7 @@ static void shifted_recording(uint32_t shift, uint32_t rows)
     for (uint32_t n = 1; n <= rows; n++) {
         add_number(n, 6);
         add(n <= shift ? ",999999999," : ",9999999999,");
-        add(n % 2 == 1 ? "0020001" : "0020000");
+        add(n % 2 == 1 ? "0020001" : "0018999");
         add(",0000000,0000000,0\r\n");
     }
 }
@@ -358,7 +358,7 @@ static uint32_t current(enum load load, uint32_t s, uint32_t n, uint32_t phase)
         return over ? level + 1 + n * 7919 % (4 * level) : n * 7919 % level;
     }
     if (chance(20) == 0)
-        return level + chance(3) - 1;
+        return (chance(2) == 0 ? 95 * s : level) + chance(3) - 1;
     return chance(chance(2) == 0 ? 2 * level : 25 * level) % 10000000;
 }
 

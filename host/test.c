@@ -33,7 +33,7 @@ enum kind {
 };
 
 static const char *const kind_names[KINDS] = {
-    [WORKED] = "worked examples of document 01",
+    [WORKED] = "worked examples of documents 01 and 02",
     [CHECKED] = "settings checks",
     [ENDS] = "batches with settings at and past the ends of range",
     [RATIOS] = "every ratio of every curve",
@@ -54,8 +54,8 @@ enum { LIMIT = 60000, CAPACITY = 4 * (LIMIT + 2), REFUSALS = 16, OPERATIONS = 13
 
 static unsigned long tried[KINDS];
 static unsigned long refusals_checked[REFUSALS], refusals_batch[REFUSALS];
-static unsigned long ticks_run[OPERATIONS], starts[OPERATIONS], trips[OPERATIONS];
-static unsigned long blocked_trips[OPERATIONS];
+static unsigned long ticks_run[OPERATIONS], starts[OPERATIONS], held[OPERATIONS];
+static unsigned long trips[OPERATIONS], blocked_trips[OPERATIONS];
 static unsigned long differing;
 
 /* ---- Chance: xorshift64*, always from the same seed ---- */
@@ -258,6 +258,16 @@ static void compare(enum kind kind, uint32_t got, uint32_t wanted)
     same_slice(kind, STATES, refused ? batch.bytes[STATES] : expected_states, same);
 }
 
+/* Whether a phase is started at that tick with a current that would not have started it. */
+static bool is_held(size_t tick)
+{
+    for (enum slice phase = L1; phase <= L3; phase++)
+        if ((expected_out[tick] >> phase & 1) != 0
+            && get_number(batch.bytes[phase] + 4 * tick, 4) <= 100 * batch.settings[START_CURRENT])
+            return true;
+    return false;
+}
+
 static void tally(enum kind kind, uint32_t refusal)
 {
     tried[kind]++;
@@ -268,6 +278,7 @@ static void tally(enum kind kind, uint32_t refusal)
     ticks_run[operation] += batch.length[OUT];
     for (size_t i = 0; i < batch.length[OUT]; i++) {
         starts[operation] += (expected_out[i] & 7) != 0;
+        held[operation] += is_held(i);
         trips[operation] += (expected_out[i] & 56) != 0;
         blocked_trips[operation] += (expected_out[i] & 56) != 0 && batch.bytes[BLOCK][i] == 1;
     }
@@ -400,19 +411,33 @@ static void random_states(void)
         random_state(phase);
 }
 
+/* Below the drop-out. */
 static uint32_t idle_current(uint32_t s)
 {
     switch (below(6)) {
     case 0:
         return 0;
     case 1:
-        return 100 * s;
-    case 2:
-        return 100 * s - 1;
-    case 3: /* where the ratio goes up */
-        return (uint32_t)between(1, 100) * s - (uint32_t)below(2);
+        return 95 * s - 1;
+    case 2: /* where the ratio goes up */
+        return (uint32_t)between(1, 94) * s - (uint32_t)below(2);
     default:
-        return (uint32_t)below(100 * s + 1);
+        return (uint32_t)below(95 * s);
+    }
+}
+
+/* From the drop-out to the setting: a phase stays what it was. */
+static uint32_t holding_current(uint32_t s)
+{
+    switch (below(5)) {
+    case 0:
+        return 95 * s;
+    case 1:
+        return 100 * s;
+    case 2: /* where the ratio goes up */
+        return (uint32_t)between(96, 100) * s - (uint32_t)below(2);
+    default:
+        return (uint32_t)between(95 * s, 100 * s);
     }
 }
 
@@ -443,7 +468,15 @@ static uint32_t started_current(uint32_t s)
 static uint32_t random_current(void)
 {
     uint32_t s = batch.settings[START_CURRENT];
-    return one_in(3) ? idle_current(s) : started_current(s);
+    switch (below(6)) {
+    case 0:
+    case 1:
+        return idle_current(s);
+    case 2:
+        return holding_current(s);
+    default:
+        return started_current(s);
+    }
 }
 
 /* Stretches of one current, from a single tick to the whole batch. */
@@ -504,26 +537,27 @@ static void random_batch(uint32_t operation, size_t ticks)
     random_out(ticks);
 }
 
-/* ---- Worked examples: their answers are the document's, not those of plain.c ---- */
+/* ---- Worked examples: their answers are those of documents 01 and 02, not those of plain.c ---- */
 
-static void worked(bool as_document_01, const char *what)
+static void worked(bool as_documented, const char *what)
 {
-    if (!as_document_01) {
+    if (!as_documented) {
         differing++;
-        printf("DIFFERS from document 01: %s\n", what);
+        printf("DIFFERS from the documents: %s\n", what);
     }
 }
 
-static void try_worked_replay(void)
+/* Document 01's 41 rows with another current in the last. */
+static void try_worked_replay(uint32_t last, uint8_t last_out)
 {
     set_settings(1, 200, 100, 100, 40, 60, 0);
     quiet_batch(41);
     constant_current(L1, 40, 20001);
-    set_current(L1, 40, 20000);
+    set_current(L1, 40, last);
     try_batch(WORKED);
     bool good = true;
     for (int i = 0; i < 41; i++)
-        good = good && lent[OUT][i] == (i < 39 ? 65 : i == 39 ? 201 : 0);
+        good = good && lent[OUT][i] == (i < 39 ? 65 : i == 39 ? 201 : last_out);
     worked(good, "the replay of 41 rows");
 }
 
@@ -569,18 +603,41 @@ static void try_worked_starts(void)
     set_current(L2, 0, 300001);
     set_current(L3, 0, 4294967295u);
     try_batch(WORKED);
-    worked(lent[OUT][0] == 64 + 4 + 2, "started exactly when g is greater than 100 x s");
+    worked(lent[OUT][0] == 64 + 4 + 2, "from clear, started exactly when g is greater than 100 x s");
     /* T = 135000 x 10000 / 1900 rounded up */
     worked(get_number(lent[STATES] + 32, 8) == 100000000000000u / 710527,
            "g = 4294967295 has m 2000 at s 3000");
 }
 
+/* L1 and L3 run on at 95 x s and at the setting, L2 at one less than 95 x s. */
+static void try_worked_drop_out(uint32_t operation)
+{
+    set_settings(operation, 3000, 5, 40, 40, 60, 0);
+    uint64_t level = operation == 1 ? 0 : trip_level();
+    quiet_batch(1);
+    set_current(L1, 0, 285000);
+    set_current(L2, 0, 284999);
+    set_current(L3, 0, 300000);
+    set_state(0, level, 39, 0);
+    set_state(1, level, 39, 0);
+    set_state(2, level / 2, 39, 0);
+    try_batch(WORKED);
+    uint8_t l3_trips = operation == 1 ? 32 : 0;
+    worked(lent[OUT][0] == 128 + 64 + 8 + 4 + 1 + l3_trips,
+           "95 x s stays started, 95 x s - 1 drops out; a full sum trips there");
+    worked(get_number(lent[STATES] + 32, 8) == level / 2,
+           "with m at 100 or less a started phase gains 0");
+}
+
 static void try_worked(void)
 {
-    try_worked_replay();
+    try_worked_replay(20000, 201);
+    try_worked_replay(18999, 0);
     try_worked_trips();
     try_worked_reset();
     try_worked_starts();
+    for (uint32_t operation = 1; operation < OPERATIONS; operation++)
+        try_worked_drop_out(operation);
 }
 
 /* ---- Settings ---- */
@@ -940,7 +997,7 @@ static void try_dip(uint32_t operation, uint32_t reset_time, size_t dip)
     set_settings(operation, s, one_in(2) ? 5 : 1500, 40, 40, reset_time, 0);
     quiet_batch(ticks);
     for (enum slice phase = L1; phase <= L3; phase++) {
-        uint32_t low = idle_current(s);
+        uint32_t low = one_in(4) ? holding_current(s) : idle_current(s);
         for (size_t tick = 0; tick < ticks; tick++)
             set_current(phase, tick, tick >= 2 && tick < 2 + dip ? low : started_current(s));
         set_state((int)phase, operation == 1 ? 0 : random_sum(), one_in(2) ? 0 : 500, 0);
@@ -969,7 +1026,7 @@ static void try_long_decay(uint32_t operation)
     constant_current(L2, LIMIT, 5000);
     constant_current(L3, LIMIT, 10000);
     for (int phase = 0; phase < 3; phase++)
-        set_state(phase, operation == 1 ? 0 : trip_level(), LIMIT, 0);
+        set_state(phase, operation == 1 ? 0 : trip_level(), 0, 0);
     for (int part = 0; part < 2; part++) {
         try_batch(DIPS);
         carry_states();
@@ -991,10 +1048,10 @@ static void say_refusals(void)
 
 static void say_operations(void)
 {
-    printf("\n%-10s%12s%12s%12s%16s\n", "operation", "ticks", "started", "tripped",
+    printf("\n%-10s%12s%12s%12s%12s%16s\n", "operation", "ticks", "started", "held", "tripped",
            "tripped,blocked");
     for (int i = 0; i < OPERATIONS; i++)
-        printf("%-10d%12lu%12lu%12lu%16lu\n", i, ticks_run[i], starts[i], trips[i],
+        printf("%-10d%12lu%12lu%12lu%12lu%16lu\n", i, ticks_run[i], starts[i], held[i], trips[i],
                blocked_trips[i]);
 }
 
@@ -1011,8 +1068,8 @@ static bool all_seen(void)
         }
     }
     for (int i = 1; i < OPERATIONS; i++)
-        if (trips[i] == 0 || blocked_trips[i] == 0) {
-            printf("operation %d never tripped, or never while blocked\n", i);
+        if (held[i] == 0 || trips[i] == 0 || blocked_trips[i] == 0) {
+            printf("operation %d was never held, never tripped, or never while blocked\n", i);
             all = false;
         }
     return all;

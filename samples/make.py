@@ -26,6 +26,8 @@ recording("iec_dips.csv", "3,200,5,40,40,60,0", [(400, 40000, 0, 0, 0), (59, 0, 
 recording("ansi_dips.csv", "9,200,5,40,40,60,0", [(60, 80000, 0, 0, 0), (300, 0, 0, 0, 0), (70, 80000, 0, 0, 0), (1500, 0, 0, 0, 0), (110, 80000, 0, 0, 0)])
 # A trip on L2 that is blocked for a while: the phase trips all the same, the general trip waits for the block.
 recording("blocked_trip.csv", "1,200,100,40,50,60,0", [(70, 0, 30000, 0, 1), (10, 0, 30000, 0, 0), (5, 0, 0, 0, 0)])
+# A motor feeder that chatters around the setting, between 101 % and 96 % of it, and then falls to just below 95 %.
+recording("chatter.csv", "1,200,100,40,100,60,0", 15 * [(6, 20200, 0, 0, 0), (4, 19200, 0, 0, 0)] + [(10, 18999, 0, 0, 0)])
 # A damaged row: the 30th has a letter in it.
 recording("damaged_row.csv", "1,200,100,40,40,60,0", [(60, 20001, 0, 0, 0)])
 path = here / "damaged_row.csv"

@@ -1,9 +1,11 @@
 // The class examples on one phase.
 use crate::line::say;
 use crate::line::verdict;
+use jumps::jump::TripTick;
 use jumps::jump::jump;
 use phase::PhaseState;
 use phase::Settings;
+use phase::tick::Ticked;
 use phase::tick::tick;
 
 // IEC VeryInv with the start current s and the reset time 60.
@@ -23,6 +25,30 @@ fn starts(s: u32, g: u32) -> bool {
     tick(settings(s), PhaseState::clear(), g).start
 }
 
+// A tick of a phase that has run for one tick, with a sum of 1000.
+fn runs_on(g: u32) -> Ticked {
+    let running = PhaseState {
+        sum: 1000,
+        run: 1,
+        drop: 0,
+    };
+    tick(settings(200), running, g)
+}
+
+// Whether a phase that has run for one tick, with a full sum, first trips at tick k.
+fn trips_first_at(g: u32, k: u32) -> bool {
+    let full = PhaseState {
+        sum: 100000000000,
+        run: 1,
+        drop: 0,
+    };
+    let trip = jump(settings(200), full, g, 1000).trip;
+    match trip {
+        TripTick::At(first) => first == k,
+        TripTick::None => false,
+    }
+}
+
 // The sum after so many idle ticks, from a sum of 1000.
 fn sum_after(idle: u32) -> u64 {
     let dipping = PhaseState {
@@ -35,12 +61,20 @@ fn sum_after(idle: u32) -> u64 {
 
 pub(crate) fn phase_examples() {
     say(b"\nOne phase, IEC VeryInv\n");
-    say(b"start current 200, sample 20000: not started");
+    say(b"from clear, start current 200, sample 20000: not started");
     verdict(!starts(200, 20000));
-    say(b"start current 200, sample 20001: started");
+    say(b"from clear, start current 200, sample 20001: started");
     verdict(starts(200, 20001));
-    say(b"start current 3000, sample 4294967295: started");
+    say(b"from clear, start current 3000, sample 4294967295: started");
     verdict(starts(3000, 4294967295));
+    say(b"run 1, start current 200, sample 19000: stays started");
+    verdict(runs_on(19000).start);
+    say(b"run 1, start current 200, sample 18999: drops out");
+    verdict(!runs_on(18999).start);
+    say(b"run 1, start current 200, sample 20000: gains nothing");
+    verdict(runs_on(20000).state.sum == 1000);
+    say(b"run 1, full sum, minimum delay 40, sample 19000: trips at tick 39");
+    verdict(trips_first_at(19000, 39));
     say(b"reset time 60, 59 idle ticks keep the sum");
     verdict(sum_after(59) == 1000);
     say(b"reset time 60, 60 idle ticks clear it");

@@ -22,9 +22,10 @@ use Rattle.phase.specs.Operation.{kindOf}
 use Rattle.phase.specs.Settings.{tripLevel}
 use Rattle.phase.specs.device.Ranges.{InRange}
 use Rattle.phase.specs.State.{runLimit}
-use Rattle.phase.specs.Tick.{gainAt, started, nextState, stateAfter, phaseTrip, due, tripBy}
+use Rattle.phase.specs.Tick.{gainAt, started, nextState, stateAfter, phaseStart, phaseTrip, due, tripBy}
 use Rattle.jumps.proofs.FirstOfLaws.{first-same, first-none, first-from}
-use Rattle.phase.proofs.Walk.{started-stays, ticks-closed}
+use Rattle.phase.proofs.StartLaws.{started-stays, trip-by-start}
+use Rattle.phase.proofs.Walk.{ticks-closed}
 
 -- ---- tests
 
@@ -102,10 +103,10 @@ trip-first (On timing) true true settings g n state range e = rw e (due-first ti
 
 -- the trip at tick k by the closed form
 trip-closed : (settings : Settings) (g : ℕ) (state : PhaseState) (k : ℕ) → tripAt settings g state (suc k) ≡ tripBy (kindOf (settings .operation)) (started settings state g) settings (advanced settings g (suc k) state)
-unfolding phaseTrip stateAfter
+unfolding phaseStart phaseTrip stateAfter
 trip-closed settings g state k =
     let kind = kindOf (settings .operation) in
-    ap (λ (b : Bool). tripBy kind b settings (nextState settings (stateAfter settings g k state) g)) (started-stays settings g k state)
+    trip-by-start kind (started settings (stateAfter settings g k state) g) (started settings state g) settings (nextState settings (stateAfter settings g k state) g) (started-stays settings g k state)
     ∙ ap (λ (after : PhaseState). tripBy kind (started settings state g) settings after) (ticks-closed settings g (suc k) state (omega arith))
 
 pub first-trip-closed : (settings : Settings) (g n : ℕ) (state : PhaseState) → InRange settings → firstTrip settings g n state ≡ firstTripBy (kindOf (settings .operation)) (started settings state g) settings g n state

@@ -5,10 +5,9 @@ use native.Mathlib.Omega.{arith}
 use mathlib.Core.Bool.{Bool, true, false, _&&_, or-true}
 use mathlib.Core.Logic.{_⊎_, inl, inr}
 use mathlib.Core.Path.{_≡_, refl}
-use borrow.Author.Tests.{leb-true, le-leb, eq-eqb}
+use borrow.Author.Tests.{le-leb, eq-eqb}
 use lib.Dec.{leb, eqb}
 use Rattle.checks.proofs.Cases.{by-cond}
-use Rattle.checks.proofs.Tests.{both-true}
 use Rattle.phase.specs.declared.operation.Kind.{Kind}
 use Rattle.phase.specs.declared.operation.Kind.the-variants.{Off, On}
 use Rattle.phase.specs.declared.operation.ResetRule.the-variants.{Iec, Ansi}
@@ -20,7 +19,7 @@ use Rattle.phase.specs.Operation.{kindOf}
 use Rattle.phase.specs.Settings.{tripLevel}
 use Rattle.phase.specs.State.{runLimit, clearState, valid, validCounts, validFor}
 use Rattle.phase.specs.Tick.{countUp, started, nextBy, nextState, stateAfter, tickRefusal}
-use Rattle.phase.proofs.Accepted.{tick-passed}
+use Rattle.phase.proofs.Accepted.{valid-parts, tick-passed}
 
 abbrev validBy : Settings → Kind → PhaseState → Bool
 validBy settings kind state = leb (state .sum) (tripLevel settings) && validCounts state && validFor kind state
@@ -68,11 +67,9 @@ clear-is-valid settings =
 pub tick-keeps-valid : (settings : Settings) (state : PhaseState) (g : ℕ) → valid settings state ≡ true → valid settings (nextState settings state g) ≡ true
 unfolding valid nextState
 tick-keeps-valid settings state g e =
-    let all = both-true (leb (state .sum) (tripLevel settings) && validCounts state) (validFor (kindOf (settings .operation)) state) e in
-    let front = both-true (leb (state .sum) (tripLevel settings)) (validCounts state) (all .0) in
     let kind = kindOf (settings .operation) in
     let b = started settings state g in
-    keeps kind b settings g state (sum-kept kind b settings g state (leb-true (state .sum) (tripLevel settings) (front .0)))
+    keeps kind b settings g state (sum-kept kind b settings g state (valid-parts settings state e .0))
 
 pub ticks-keep-valid : (settings : Settings) (g n : ℕ) (state : PhaseState) → valid settings state ≡ true → valid settings (stateAfter settings g n state) ≡ true
 unfolding stateAfter

@@ -16,7 +16,8 @@ use Rattle.phase.specs.declared.state.PhaseState.{PhaseState}
 use Rattle.phase.specs.device.Closed.{advanceBy, advanced}
 use Rattle.phase.specs.Operation.{kindOf}
 use Rattle.phase.specs.State.{runLimit}
-use Rattle.phase.specs.Tick.{started, nextBy, nextState, stateAfter}
+use Rattle.phase.specs.Tick.{started, nextBy, nextState, stateAfter, phaseStart}
+use Rattle.phase.proofs.StartLaws.{started-stays, next-by-start}
 
 -- equal parts, equal states
 pub same-state : {s s' r r' d d' : ℕ} → s ≡ s' → r ≡ r' → d ≡ d' → _≡_ {A = PhaseState} (record { sum = s; run = r; drop = d }) (record { sum = s'; run = r'; drop = d' })
@@ -63,18 +64,13 @@ again (On (Curve Ansi)) false settings g n state = same-state (drain-again _ _ _
 
 -- ---- the walk
 
--- equal samples stay started, or stay idle: whether a phase is started does not change from tick to tick
-pub started-stays : (settings : Settings) (g n : ℕ) (state : PhaseState) → started settings (stateAfter settings g n state) g ≡ started settings state g
-unfolding started
-started-stays settings g n state = refl
-
 from-one : (settings : Settings) (g n : ℕ) (state : PhaseState) → stateAfter settings g (suc n) state ≡ advanced settings g (suc n) state
-unfolding stateAfter nextState
+unfolding stateAfter nextState phaseStart
 from-one settings g zero state = once (kindOf (settings .operation)) (started settings state g) settings g state
 from-one settings g (suc n) state =
     let kind = kindOf (settings .operation) in
     let b = started settings state g in
-    ap (λ (x : Bool). nextBy kind x settings g (stateAfter settings g (suc n) state)) (started-stays settings g (suc n) state)
+    next-by-start kind (started settings (stateAfter settings g (suc n) state) g) b settings g (stateAfter settings g (suc n) state) (started-stays settings g (suc n) state)
     ∙ ap (nextBy kind b settings g) (from-one settings g n state)
     ∙ again kind b settings g (suc n) state
 

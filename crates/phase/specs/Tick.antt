@@ -28,9 +28,11 @@ gainAt settings g = gainOf (settings .operation) (ratioOf g (settings .«start_c
 abbrev pub lossAt : Settings → ℕ → ℕ
 lossAt settings g = lossOf (settings .operation) (ratioOf g (settings .«start_current»))
 
--- 2. "Started exactly when g is greater than 100 x s." It is asked of settings, state and sample, as each rule is.
+-- 2. as document 02, E3 amends it: "a phase that was started on its last tick (run above 0) stays started while g is at least
+-- 95 x s; a phase that wasn't still needs g greater than 100 x s."
 unfoldable pub started : Settings → PhaseState → ℕ → Bool
-started settings state g = ltb (100 * settings .«start_current») g
+started settings state g =
+    cond (ltb 0 (state .run)) (leb (95 * settings .«start_current») g) (ltb (100 * settings .«start_current») g)
 
 -- "goes up by 1 (stops at 60,000)", of run and of drop
 abbrev pub countUp : ℕ → ℕ

@@ -14,12 +14,16 @@ use crate::settings::Settings;
 use crate::settings::trip_level;
 use crate::state::PhaseState;
 
-// Whether a tick with this sample is started.
+// Whether a tick with this sample is started: a phase that runs drops out below 95 %, one that doesn't starts above 100 %.
 pub fn is_started(settings: Settings, state: PhaseState, sample: u32) -> bool
     requires { ⌜ InRange settings ⌝ }
     ensures { λ r. ⌜ r ≡ started settings state sample ⌝ }
 {
-    100 * settings.start_current < sample
+    if 0 < state.run {
+        95 * settings.start_current <= sample
+    } else {
+        100 * settings.start_current < sample
+    }
 }
 
 // A count that goes up by 1 at each of n ticks, and stops at its limit.

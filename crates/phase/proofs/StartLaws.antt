@@ -1,0 +1,77 @@
+-- The drop-out at 95 % (02, E3): over equal samples a phase stays started, or stays idle, and below its setting a started one
+-- neither gains nor loses.
+-- Assumes nothing.
+use Prim.Native.Nat.{ℕ, zero, suc, _*_, _≤_}
+use native.Mathlib.Omega.{arith}
+use mathlib.Core.Bool.{Bool, true, false, cond, false≢true}
+use mathlib.Core.Path.{_≡_, refl, sym, ap, _∙_}
+use borrow.Author.Tests.{le-leb, leb-false, lt-ltb, ltb-true, le-ltb, eqb-true}
+use lib.Dec.{ltb, leb}
+use Rattle.curve.proofs.GainLaws.{gain-zero-to-100}
+use Rattle.curve.specs.Ratio.{ratioOf}
+use Rattle.phase.specs.declared.operation.Kind.{Kind}
+use Rattle.phase.specs.declared.operation.Kind.the-variants.{Off, On}
+use Rattle.phase.specs.declared.operation.Timing.{Timing}
+use Rattle.phase.specs.declared.operation.Timing.the-variants.{Definite, Curve}
+use Rattle.phase.specs.declared.settings.Settings.{Settings}
+use Rattle.phase.specs.declared.state.PhaseState.{PhaseState}
+use Rattle.phase.specs.Operation.{kindOf}
+use Rattle.phase.specs.Settings.{tripLevel}
+use Rattle.phase.specs.State.{valid, validFor}
+use Rattle.phase.specs.Tick.{gainAt, countUp, started, nextBy, nextState, stateAfter, startBy, phaseStart, tripBy}
+use Rattle.phase.proofs.Accepted.{valid-parts}
+
+-- ---- equal samples
+
+-- a started phase has g at least 95 x s, whether it ran before or not
+started-high : (ran : Bool) (s g : ℕ) → cond ran (leb (95 * s) g) (ltb (100 * s) g) ≡ true → leb (95 * s) g ≡ true
+started-high true s g e = e
+started-high false s g e = le-leb (95 * s) g (omega (arith, ltb-true (100 * s) g e))
+
+-- an idle one has g at most 100 x s
+idle-low : (ran : Bool) (s g : ℕ) → cond ran (leb (95 * s) g) (ltb (100 * s) g) ≡ false → ltb (100 * s) g ≡ false
+idle-low true s g e = le-ltb (100 * s) g (omega (arith, leb-false (95 * s) g e))
+idle-low false s g e = e
+
+-- a started tick leaves run above 0, an idle one leaves it 0
+on-again : (timing : Timing) (b : Bool) (settings : Settings) (g : ℕ) (state : PhaseState) → started settings state g ≡ b → started settings (nextBy (On timing) b settings g state) g ≡ b
+unfolding started
+on-again timing true settings g state e =
+    rw (lt-ltb 0 (countUp (state .run)) (omega arith)) (started-high (ltb 0 (state .run)) (settings .«start_current») g e)
+on-again timing false settings g state e = idle-low (ltb 0 (state .run)) (settings .«start_current») g e
+
+again : (kind : Kind) (settings : Settings) (g : ℕ) (state : PhaseState) → startBy kind (started settings (nextBy kind (started settings state g) settings g state) g) ≡ startBy kind (started settings state g)
+again Off settings g state = refl
+again (On timing) settings g state = on-again timing (started settings state g) settings g state refl
+
+-- of any settings and any state: Off starts at no tick, whatever its run
+pub started-stays : (settings : Settings) (g n : ℕ) (state : PhaseState) → phaseStart settings (stateAfter settings g n state) g ≡ phaseStart settings state g
+unfolding phaseStart stateAfter nextState
+started-stays settings g zero state = refl
+started-stays settings g (suc n) state =
+    again (kindOf (settings .operation)) settings g (stateAfter settings g n state) ∙ started-stays settings g n state
+
+-- ---- what a tick does and trips goes by its start output
+
+pub next-by-start : (kind : Kind) (b c : Bool) (settings : Settings) (g : ℕ) (state : PhaseState) → startBy kind b ≡ startBy kind c → nextBy kind b settings g state ≡ nextBy kind c settings g state
+next-by-start Off b c settings g state e = refl
+next-by-start (On timing) b c settings g state e = ap (λ (x : Bool). nextBy (On timing) x settings g state) e
+
+pub trip-by-start : (kind : Kind) (b c : Bool) (settings : Settings) (after : PhaseState) → startBy kind b ≡ startBy kind c → tripBy kind b settings after ≡ tripBy kind c settings after
+trip-by-start Off b c settings after e = refl
+trip-by-start (On timing) b c settings after e = ap (λ (x : Bool). tripBy (On timing) x settings after) e
+
+-- ---- "With m at 100 or less a started phase gains 0."
+
+no-gain : (kind : Kind) (b : Bool) (settings : Settings) (g : ℕ) (state : PhaseState) → startBy kind b ≡ true → state .sum ≤ tripLevel settings → validFor kind state ≡ true → gainAt settings g ≡ 0 → nextBy kind b settings g state .sum ≡ state .sum
+no-gain Off b settings g state on small v flat = absurd (false≢true on)
+no-gain (On timing) false settings g state on small v flat = absurd (false≢true on)
+no-gain (On Definite) true settings g state on small v flat = sym (eqb-true (state .sum) 0 v)
+no-gain (On (Curve rule)) true settings g state on small v flat = omega (arith, small, flat)
+
+-- and loses nothing: its sum stays
+pub sum-stands-still : (settings : Settings) (state : PhaseState) (g : ℕ) → valid settings state ≡ true → phaseStart settings state g ≡ true → ratioOf g (settings .«start_current») ≤ 100 → nextState settings state g .sum ≡ state .sum
+unfolding phaseStart nextState
+sum-stands-still settings state g v on low =
+    let (sum, run, drop, own) = valid-parts settings state v in
+    no-gain (kindOf (settings .operation)) (started settings state g) settings g state on sum own (gain-zero-to-100 (settings .operation) _ low)
