@@ -4,7 +4,7 @@ use Prim.Native.Nat.{ℕ, zero, suc, _+_, _-_, _*_, _≤_, _<_, min, max}
 use native.Mathlib.Nat.{suc-mul, div-lt-iff-lt-mul, div-zero, mul-zero}
 use native.Mathlib.Omega.{arith}
 use mathlib.Core.Bool.{Bool, true, false, cond, _&&_}
-use mathlib.Core.Path.{_≡_, refl, ap, _∙_}
+use mathlib.Core.Path.{_≡_, refl, _∙_}
 use borrow.Author.Tests.{leb-true, le-leb, lt-leb, ltb-true, ltb-false}
 use lib.Dec.{leb, ltb, eqb, eqb·suc-zero}
 use Rattle.checks.proofs.Cases.{same-test}
@@ -15,17 +15,16 @@ use Rattle.phase.specs.declared.operation.Timing.{Timing}
 use Rattle.phase.specs.declared.operation.Timing.the-variants.{Definite, Curve}
 use Rattle.phase.specs.declared.settings.Settings.{Settings}
 use Rattle.phase.specs.declared.state.PhaseState.{PhaseState}
-use Rattle.phase.specs.device.Closed.{advanceBy, advanced}
+use Rattle.phase.specs.device.Closed.{advanceBy}
 use Rattle.jumps.specs.device.FirstTrip.{oneOf, waitFor, turns, firstFull, firstDue, firstTripBy}
-use Rattle.jumps.specs.Jump.{firstOf, tripAt, firstTrip}
+use Rattle.jumps.specs.Jump.{firstOf, firstTrip}
 use Rattle.phase.specs.Operation.{kindOf}
 use Rattle.phase.specs.Settings.{tripLevel}
 use Rattle.phase.specs.device.Ranges.{InRange}
 use Rattle.phase.specs.State.{runLimit}
-use Rattle.phase.specs.Tick.{gainAt, started, nextState, stateAfter, phaseStart, phaseTrip, due, tripBy}
+use Rattle.phase.specs.Tick.{gainAt, started, due, tripBy}
 use Rattle.jumps.proofs.FirstOfLaws.{first-same, first-none, first-from}
-use Rattle.phase.proofs.StartLaws.{started-stays, trip-by-start}
-use Rattle.phase.proofs.Walk.{ticks-closed}
+use Rattle.phase.proofs.Walk.{trip-closed}
 
 -- ---- tests
 
@@ -101,16 +100,8 @@ trip-first (On timing) false allowed settings g n state range e = first-none _ n
 trip-first (On timing) true false settings g n state range e = rw e (first-none _ n (λ k. refl))
 trip-first (On timing) true true settings g n state range e = rw e (due-first timing settings g n state range)
 
--- the trip at tick k by the closed form
-trip-closed : (settings : Settings) (g : ℕ) (state : PhaseState) (k : ℕ) → tripAt settings g state (suc k) ≡ tripBy (kindOf (settings .operation)) (started settings state g) settings (advanced settings g (suc k) state)
-unfolding phaseStart phaseTrip stateAfter
-trip-closed settings g state k =
-    let kind = kindOf (settings .operation) in
-    trip-by-start kind (started settings (stateAfter settings g k state) g) (started settings state g) settings (nextState settings (stateAfter settings g k state) g) (started-stays settings g k state)
-    ∙ ap (λ (after : PhaseState). tripBy kind (started settings state g) settings after) (ticks-closed settings g (suc k) state (omega arith))
-
 pub first-trip-closed : (settings : Settings) (g n : ℕ) (state : PhaseState) → InRange settings → firstTrip settings g n state ≡ firstTripBy (kindOf (settings .operation)) (started settings state g) settings g n state
 unfolding firstTrip
 first-trip-closed settings g n state range =
-    first-same _ _ n (trip-closed settings g state)
+    first-same _ _ n (λ k. trip-closed settings g k state)
     ∙ trip-first (kindOf (settings .operation)) (started settings state g) (eqb (settings .«start_only») 0) settings g n state range refl

@@ -18,7 +18,7 @@ use Rattle.phase.specs.declared.state.PhaseState.{PhaseState}
 use Rattle.phase.specs.Operation.{kindOf}
 use Rattle.phase.specs.Settings.{tripLevel}
 use Rattle.phase.specs.State.{valid, validFor}
-use Rattle.phase.specs.Tick.{gainAt, countUp, started, nextBy, nextState, stateAfter, startBy, phaseStart, tripBy}
+use Rattle.phase.specs.Tick.{gainAt, countUp, started, nextBy, nextState, stateAfter, startBy, phaseStart}
 use Rattle.phase.proofs.Accepted.{valid-parts}
 
 -- ---- equal samples
@@ -40,26 +40,21 @@ on-again timing true settings g state e =
     rw (lt-ltb 0 (countUp (state .run)) (omega arith)) (started-high (ltb 0 (state .run)) (settings .«start_current») g e)
 on-again timing false settings g state e = idle-low (ltb 0 (state .run)) (settings .«start_current») g e
 
-again : (kind : Kind) (settings : Settings) (g : ℕ) (state : PhaseState) → startBy kind (started settings (nextBy kind (started settings state g) settings g state) g) ≡ startBy kind (started settings state g)
-again Off settings g state = refl
-again (On timing) settings g state = on-again timing (started settings state g) settings g state refl
+start-again : (kind : Kind) (settings : Settings) (g : ℕ) (state : PhaseState) → startBy kind (started settings (nextBy kind (started settings state g) settings g state) g) ≡ startBy kind (started settings state g)
+start-again Off settings g state = refl
+start-again (On timing) settings g state = on-again timing (started settings state g) settings g state refl
 
 -- of any settings and any state: Off starts at no tick, whatever its run
 pub started-stays : (settings : Settings) (g n : ℕ) (state : PhaseState) → phaseStart settings (stateAfter settings g n state) g ≡ phaseStart settings state g
 unfolding phaseStart stateAfter nextState
 started-stays settings g zero state = refl
 started-stays settings g (suc n) state =
-    again (kindOf (settings .operation)) settings g (stateAfter settings g n state) ∙ started-stays settings g n state
+    start-again (kindOf (settings .operation)) settings g (stateAfter settings g n state) ∙ started-stays settings g n state
 
--- ---- what a tick does and trips goes by its start output
-
-pub next-by-start : (kind : Kind) (b c : Bool) (settings : Settings) (g : ℕ) (state : PhaseState) → startBy kind b ≡ startBy kind c → nextBy kind b settings g state ≡ nextBy kind c settings g state
-next-by-start Off b c settings g state e = refl
-next-by-start (On timing) b c settings g state e = ap (λ (x : Bool). nextBy (On timing) x settings g state) e
-
-pub trip-by-start : (kind : Kind) (b c : Bool) (settings : Settings) (after : PhaseState) → startBy kind b ≡ startBy kind c → tripBy kind b settings after ≡ tripBy kind c settings after
-trip-by-start Off b c settings after e = refl
-trip-by-start (On timing) b c settings after e = ap (λ (x : Bool). tripBy (On timing) x settings after) e
+-- what goes by the operation and by whether it is started, and for Off by the operation alone, goes by the start output
+pub by-start : {A : Type 0} (f : Kind → Bool → A) → ((b c : Bool) → f Off b ≡ f Off c) → (kind : Kind) (b c : Bool) → startBy kind b ≡ startBy kind c → f kind b ≡ f kind c
+by-start f off Off b c e = off b c
+by-start f off (On timing) b c e = ap (f (On timing)) e
 
 -- ---- "With m at 100 or less a started phase gains 0."
 

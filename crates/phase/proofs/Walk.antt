@@ -16,8 +16,8 @@ use Rattle.phase.specs.declared.state.PhaseState.{PhaseState}
 use Rattle.phase.specs.device.Closed.{advanceBy, advanced}
 use Rattle.phase.specs.Operation.{kindOf}
 use Rattle.phase.specs.State.{runLimit}
-use Rattle.phase.specs.Tick.{started, nextBy, nextState, stateAfter, phaseStart}
-use Rattle.phase.proofs.StartLaws.{started-stays, next-by-start}
+use Rattle.phase.specs.Tick.{started, nextBy, nextState, stateAfter, phaseStart, phaseTrip, tripBy}
+use Rattle.phase.proofs.StartLaws.{started-stays, by-start}
 
 -- equal parts, equal states
 pub same-state : {s s' r r' d d' : ℕ} → s ≡ s' → r ≡ r' → d ≡ d' → _≡_ {A = PhaseState} (record { sum = s; run = r; drop = d }) (record { sum = s'; run = r'; drop = d' })
@@ -70,7 +70,8 @@ from-one settings g zero state = once (kindOf (settings .operation)) (started se
 from-one settings g (suc n) state =
     let kind = kindOf (settings .operation) in
     let b = started settings state g in
-    next-by-start kind (started settings (stateAfter settings g (suc n) state) g) b settings g (stateAfter settings g (suc n) state) (started-stays settings g (suc n) state)
+    let walked = stateAfter settings g (suc n) state in
+    by-start (λ k x. nextBy k x settings g walked) (λ x y. refl) kind (started settings walked g) b (started-stays settings g (suc n) state)
     ∙ ap (nextBy kind b settings g) (from-one settings g n state)
     ∙ again kind b settings g (suc n) state
 
@@ -78,6 +79,16 @@ from-one settings g (suc n) state =
 pub ticks-closed : (settings : Settings) (g n : ℕ) (state : PhaseState) → 0 < n → stateAfter settings g n state ≡ advanced settings g n state
 ticks-closed settings g zero state h = absurd (not-suc-le-zero h)
 ticks-closed settings g (suc n) state h = from-one settings g n state
+
+-- the trip of the tick after n others
+pub trip-closed : (settings : Settings) (g n : ℕ) (state : PhaseState) → phaseTrip settings (stateAfter settings g n state) g ≡ tripBy (kindOf (settings .operation)) (started settings state g) settings (advanced settings g (suc n) state)
+unfolding phaseStart phaseTrip stateAfter
+trip-closed settings g n state =
+    let kind = kindOf (settings .operation) in
+    let b = started settings state g in
+    let walked = stateAfter settings g n state in
+    by-start (λ k x. tripBy k x settings (nextState settings walked g)) (λ x y. refl) kind (started settings walked g) b (started-stays settings g n state)
+    ∙ ap (tripBy kind b settings) (from-one settings g n state)
 
 pub next-closed : (settings : Settings) (g : ℕ) (state : PhaseState) → nextState settings state g ≡ advanced settings g 1 state
 unfolding nextState
