@@ -2,7 +2,8 @@
  * Phase overcurrent relay module: the two functions of libborder.a.
  *
  * Three phases L1, L2, L3, one tick per millisecond. The rules are those of
- * document 01; this page says what a caller in C needs of them.
+ * document 01, as document 02 amends them; this page says what a caller in C
+ * needs of them.
  *
  * Both functions return a refusal number, 0 when the call is accepted. They
  * keep nothing between calls: all that goes on from one batch to the next is
@@ -82,9 +83,9 @@ enum oc_refusal {
 /*
  * One tick's output byte. The eight status fields of a row of the record are these bits, in this order.
  *
- * A phase starts at a current above 100 x start_current, and stays started
- * until one is below 95 x start_current: it was started on its last tick
- * exactly if `run` in its state is above 0.
+ * Unless the operation is Off, a phase starts at a current above
+ * 100 x start_current and stays started until one is below 95 x start_current.
+ * It counts as started on its last tick exactly if `run` in its state is above 0.
  */
 enum oc_output {
     OC_START_L1 = 1,

@@ -1,8 +1,8 @@
 /*
- * Document 01 in plain C: the settings check and the batch at the byte border,
- * with the arguments and answers of oc_check_settings and oc_batch, and the one
- * tick of three phases below them. It shares no code and no table with the
- * archive, so that the two can be compared.
+ * Document 01, as document 02 amends it, in plain C: the settings check and the
+ * batch at the byte border, with the arguments and answers of oc_check_settings
+ * and oc_batch, and the one tick of three phases below them. It shares no code
+ * and no table with the archive, so that the two can be compared.
  */
 #ifndef PLAIN_H
 #define PLAIN_H

@@ -357,8 +357,10 @@ static uint32_t current(enum load load, uint32_t s, uint32_t n, uint32_t phase)
         bool over = n / (300 + 100 * phase) % 2 == 1;
         return over ? level + 1 + n * 7919 % (4 * level) : n * 7919 % level;
     }
-    if (chance(20) == 0)
-        return (chance(2) == 0 ? 95 * s : level) + chance(3) - 1;
+    if (chance(20) == 0) {
+        uint32_t near = chance(2) == 0 ? 95 * s : level;
+        return near + chance(3) - 1;
+    }
     return chance(chance(2) == 0 ? 2 * level : 25 * level) % 10000000;
 }
 

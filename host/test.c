@@ -278,7 +278,7 @@ static void tally(enum kind kind, uint32_t refusal)
     ticks_run[operation] += batch.length[OUT];
     for (size_t i = 0; i < batch.length[OUT]; i++) {
         starts[operation] += (expected_out[i] & 7) != 0;
-        held[operation] += is_held(i);
+        held[operation] += kind != WORKED && is_held(i);
         trips[operation] += (expected_out[i] & 56) != 0;
         blocked_trips[operation] += (expected_out[i] & 56) != 0 && batch.bytes[BLOCK][i] == 1;
     }
@@ -547,7 +547,7 @@ static void worked(bool as_documented, const char *what)
     }
 }
 
-/* Document 01's 41 rows with another current in the last. */
+/* Document 01's 41 rows with this current in the last. */
 static void try_worked_replay(uint32_t last, uint8_t last_out)
 {
     set_settings(1, 200, 100, 100, 40, 60, 0);
@@ -558,7 +558,7 @@ static void try_worked_replay(uint32_t last, uint8_t last_out)
     bool good = true;
     for (int i = 0; i < 41; i++)
         good = good && lent[OUT][i] == (i < 39 ? 65 : i == 39 ? 201 : last_out);
-    worked(good, "the replay of 41 rows");
+    worked(good, last == 18999 ? "41 rows, 18999 in the last" : "41 rows");
 }
 
 static size_t first_trip(size_t ticks)
@@ -609,7 +609,7 @@ static void try_worked_starts(void)
            "g = 4294967295 has m 2000 at s 3000");
 }
 
-/* L1 and L3 run on at 95 x s and at the setting, L2 at one less than 95 x s. */
+/* All three have run for 39 ticks: L1 is at 95 x s, L2 at one less, L3 just below the setting. */
 static void try_worked_drop_out(uint32_t operation)
 {
     set_settings(operation, 3000, 5, 40, 40, 60, 0);
@@ -617,7 +617,7 @@ static void try_worked_drop_out(uint32_t operation)
     quiet_batch(1);
     set_current(L1, 0, 285000);
     set_current(L2, 0, 284999);
-    set_current(L3, 0, 300000);
+    set_current(L3, 0, 299999);
     set_state(0, level, 39, 0);
     set_state(1, level, 39, 0);
     set_state(2, level / 2, 39, 0);
@@ -695,14 +695,14 @@ static void try_settings_together(void)
 
 /* ---- Curves: after one tick, what the sum gained or lost is seen in the states ---- */
 
-static void try_ratios(uint32_t operation, uint32_t s, uint32_t past)
+static void try_ratios(uint32_t operation, uint32_t s, uint32_t past, uint32_t run)
 {
     for (uint32_t m = 0; m <= 2001; m += 3) {
         set_settings(operation, s, 1500, 40, 40, 60000, 0);
         quiet_batch(1);
         for (uint32_t i = 0; i < 3; i++) {
             set_current((enum slice)i, 0, (m + i) * s + past);
-            set_state((int)i, 700000000000u, 0, 0);
+            set_state((int)i, 700000000000u, run, 0);
         }
         try_batch(RATIOS);
     }
@@ -711,8 +711,9 @@ static void try_ratios(uint32_t operation, uint32_t s, uint32_t past)
 static void try_all_ratios(void)
 {
     for (uint32_t operation = 2; operation < OPERATIONS; operation++) {
-        try_ratios(operation, 10, 0);
-        try_ratios(operation, 3000, 2999);
+        try_ratios(operation, 10, 0, 0);
+        try_ratios(operation, 3000, 2999, 0);
+        try_ratios(operation, 200, 0, 1);
     }
 }
 
@@ -896,7 +897,7 @@ static void try_long(uint32_t operation)
     try_batch(LONG);
 }
 
-/* From clear, one current throughout: counts that reach 60,000, sums that reach the level. */
+/* One current throughout: counts that reach 60,000, sums that reach the level, a phase that is held. */
 static void try_long_constant(uint32_t operation)
 {
     usual_settings(operation);
@@ -904,6 +905,8 @@ static void try_long_constant(uint32_t operation)
     quiet_batch(LIMIT);
     constant_current(L1, LIMIT, 15000);
     constant_current(L2, LIMIT, costly(operation) ? 10001 : 50000);
+    constant_current(L3, LIMIT, 9600);
+    set_state(2, 0, 1, 0);
     try_batch(LONG);
     carry_states();
     batch.length[L1] = batch.length[L2] = batch.length[L3] = 400;
@@ -988,7 +991,8 @@ static void try_carried(uint32_t operation)
 
 /*
  * The sum is built up, then the current dips for about the reset time: an IEC
- * sum is kept or cleared at one tick, an ANSI sum decays tick by tick.
+ * sum is kept or cleared at one tick, an ANSI sum decays tick by tick. At a
+ * current that holds the phase there is no dip: it stays started.
  */
 static void try_dip(uint32_t operation, uint32_t reset_time, size_t dip)
 {
@@ -1026,7 +1030,7 @@ static void try_long_decay(uint32_t operation)
     constant_current(L2, LIMIT, 5000);
     constant_current(L3, LIMIT, 10000);
     for (int phase = 0; phase < 3; phase++)
-        set_state(phase, operation == 1 ? 0 : trip_level(), 0, 0);
+        set_state(phase, operation == 1 ? 0 : trip_level(), phase == 2 ? 0 : LIMIT, 0);
     for (int part = 0; part < 2; part++) {
         try_batch(DIPS);
         carry_states();

@@ -26,7 +26,7 @@ fn starts(s: u32, g: u32) -> bool {
 }
 
 // A tick of a phase that has run for one tick, with a sum of 1000.
-fn runs_on(g: u32) -> Ticked {
+fn tick_running(g: u32) -> Ticked {
     let running = PhaseState {
         sum: 1000,
         run: 1,
@@ -68,11 +68,12 @@ pub(crate) fn phase_examples() {
     say(b"from clear, start current 3000, sample 4294967295: started");
     verdict(starts(3000, 4294967295));
     say(b"run 1, start current 200, sample 19000: stays started");
-    verdict(runs_on(19000).start);
+    verdict(tick_running(19000).start);
     say(b"run 1, start current 200, sample 18999: drops out");
-    verdict(!runs_on(18999).start);
-    say(b"run 1, start current 200, sample 20000: gains nothing");
-    verdict(runs_on(20000).state.sum == 1000);
+    verdict(!tick_running(18999).start);
+    say(b"run 1, start current 200, sample 19999: started, and gains nothing");
+    let held = tick_running(19999);
+    verdict(held.start & (held.state.sum == 1000));
     say(b"run 1, full sum, minimum delay 40, sample 19000: trips at tick 39");
     verdict(trips_first_at(19000, 39));
     say(b"reset time 60, 59 idle ticks keep the sum");

@@ -1,6 +1,6 @@
 -- What an accepted tick tells of its arguments, and what it and a refused one answer.
 -- Assumes nothing.
-use Prim.Native.Nat.{ℕ, _≤_}
+use Prim.Native.Nat.{ℕ}
 use mathlib.Core.Bool.{true, _&&_, _||_}
 use mathlib.Core.List.{[], _∷_}
 use mathlib.Core.Path.{_≡_, refl, sym, _∙_, ap}
@@ -15,7 +15,7 @@ use Rattle.phase.specs.Operation.{kindOf}
 use Rattle.phase.specs.Refusals.{invalidState}
 use Rattle.phase.specs.device.Pace.{paceOf, Ready}
 use Rattle.phase.specs.Settings.{settingsChecks, settingsRefusal, tripLevel}
-use Rattle.phase.specs.device.Ranges.{InRange}
+use Rattle.phase.specs.device.Ranges.{InRange, InLimits}
 use Rattle.phase.specs.State.{runLimit, valid, validCounts, validFor}
 use Rattle.phase.specs.Tick.{phaseChecks, tickRefusal, tickOf, refusedTick, tickAnswer}
 
@@ -50,21 +50,25 @@ pub accepted-settings : (settings : Settings) → settingsRefusal settings ≡ 0
 unfolding settingsRefusal
 accepted-settings settings e = e
 
--- the bounds of a valid state, and what its group of operations asks
-pub valid-parts : (settings : Settings) (state : PhaseState) → valid settings state ≡ true → (state .sum ≤ tripLevel settings) × (state .run ≤ runLimit) × (state .drop ≤ runLimit) × (validFor (kindOf (settings .operation)) state ≡ true)
+pub valid-in-limits : (settings : Settings) (state : PhaseState) → valid settings state ≡ true → InLimits settings state
 unfolding valid
-valid-parts settings state e =
+valid-in-limits settings state e =
     let (front, own) = both-true (leb (state .sum) (tripLevel settings) && validCounts state) (validFor (kindOf (settings .operation)) state) e in
     let (sum, counts) = both-true (leb (state .sum) (tripLevel settings)) (validCounts state) front in
     let (limits, either) = both-true (leb (state .run) runLimit && leb (state .drop) runLimit) (eqb (state .run) 0 || eqb (state .drop) 0) counts in
     let (run, drop) = both-true (leb (state .run) runLimit) (leb (state .drop) runLimit) limits in
-    (leb-true (state .sum) (tripLevel settings) sum, leb-true (state .run) runLimit run, leb-true (state .drop) runLimit drop, own)
+    record {
+      sum = leb-true (state .sum) (tripLevel settings) sum;
+      run = leb-true (state .run) runLimit run;
+      drop = leb-true (state .drop) runLimit drop;
+      kind = own;
+    }
 
 pub ready : (settings : Settings) (state : PhaseState) (g : ℕ) → InRange settings → valid settings state ≡ true → Ready settings (paceOf settings g) state
 unfolding paceOf
 ready settings state g range e =
-    let (sum, run, drop, own) = valid-parts settings state e in
-    record { range = range; gain = refl; loss = refl; sum = sum; run = run; drop = drop }
+    let limits = valid-in-limits settings state e in
+    record { range = range; gain = refl; loss = refl; sum = limits .sum; run = limits .run; drop = limits .drop }
 
 -- settings and a state that pass, and what comes after them
 pub phase-passed : (settings : Settings) (state : PhaseState) (rest : ℕ) → firstFailed (phaseChecks settings state) rest ≡ 0 → InRange settings × (valid settings state ≡ true) × (rest ≡ 0)

@@ -19,7 +19,7 @@ use Rattle.phase.specs.Operation.{kindOf}
 use Rattle.phase.specs.Settings.{tripLevel}
 use Rattle.phase.specs.State.{runLimit, clearState, valid, validCounts, validFor}
 use Rattle.phase.specs.Tick.{countUp, started, nextBy, nextState, stateAfter, tickRefusal}
-use Rattle.phase.proofs.Accepted.{valid-parts, tick-passed}
+use Rattle.phase.proofs.Accepted.{valid-in-limits, tick-passed}
 
 abbrev validBy : Settings → Kind → PhaseState → Bool
 validBy settings kind state = leb (state .sum) (tripLevel settings) && validCounts state && validFor kind state
@@ -69,7 +69,7 @@ unfolding valid nextState
 tick-keeps-valid settings state g e =
     let kind = kindOf (settings .operation) in
     let b = started settings state g in
-    keeps kind b settings g state (sum-kept kind b settings g state (valid-parts settings state e .0))
+    keeps kind b settings g state (sum-kept kind b settings g state (valid-in-limits settings state e .sum))
 
 pub ticks-keep-valid : (settings : Settings) (g n : ℕ) (state : PhaseState) → valid settings state ≡ true → valid settings (stateAfter settings g n state) ≡ true
 unfolding stateAfter

@@ -1,4 +1,4 @@
--- The drop-out at 95 % (02, E3): over equal samples a phase stays started, or stays idle, and below its setting a started one
+-- The drop-out at 95 % (02, E3): over equal samples a phase stays started, or stays idle, and with m at 100 or less a started one
 -- neither gains nor loses.
 -- Assumes nothing.
 use Prim.Native.Nat.{ℕ, zero, suc, _*_, _≤_}
@@ -19,7 +19,7 @@ use Rattle.phase.specs.Operation.{kindOf}
 use Rattle.phase.specs.Settings.{tripLevel}
 use Rattle.phase.specs.State.{valid, validFor}
 use Rattle.phase.specs.Tick.{gainAt, countUp, started, nextBy, nextState, stateAfter, startBy, phaseStart}
-use Rattle.phase.proofs.Accepted.{valid-parts}
+use Rattle.phase.proofs.Accepted.{valid-in-limits}
 
 -- ---- equal samples
 
@@ -45,11 +45,11 @@ start-again Off settings g state = refl
 start-again (On timing) settings g state = on-again timing (started settings state g) settings g state refl
 
 -- of any settings and any state: Off starts at no tick, whatever its run
-pub started-stays : (settings : Settings) (g n : ℕ) (state : PhaseState) → phaseStart settings (stateAfter settings g n state) g ≡ phaseStart settings state g
+pub start-stays : (settings : Settings) (g n : ℕ) (state : PhaseState) → phaseStart settings (stateAfter settings g n state) g ≡ phaseStart settings state g
 unfolding phaseStart stateAfter nextState
-started-stays settings g zero state = refl
-started-stays settings g (suc n) state =
-    start-again (kindOf (settings .operation)) settings g (stateAfter settings g n state) ∙ started-stays settings g n state
+start-stays settings g zero state = refl
+start-stays settings g (suc n) state =
+    start-again (kindOf (settings .operation)) settings g (stateAfter settings g n state) ∙ start-stays settings g n state
 
 -- what goes by the operation and by whether it is started, and for Off by the operation alone, goes by the start output
 pub by-start : {A : Type 0} (f : Kind → Bool → A) → ((b c : Bool) → f Off b ≡ f Off c) → (kind : Kind) (b c : Bool) → startBy kind b ≡ startBy kind c → f kind b ≡ f kind c
@@ -68,5 +68,5 @@ no-gain (On (Curve rule)) true settings g state on small v flat = omega (arith, 
 pub sum-stands-still : (settings : Settings) (state : PhaseState) (g : ℕ) → valid settings state ≡ true → phaseStart settings state g ≡ true → ratioOf g (settings .«start_current») ≤ 100 → nextState settings state g .sum ≡ state .sum
 unfolding phaseStart nextState
 sum-stands-still settings state g v on low =
-    let (sum, run, drop, own) = valid-parts settings state v in
-    no-gain (kindOf (settings .operation)) (started settings state g) settings g state on sum own (gain-zero-to-100 (settings .operation) _ low)
+    let limits = valid-in-limits settings state v in
+    no-gain (kindOf (settings .operation)) (started settings state g) settings g state on (limits .sum) (limits .kind) (gain-zero-to-100 (settings .operation) _ low)

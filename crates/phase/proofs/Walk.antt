@@ -17,7 +17,7 @@ use Rattle.phase.specs.device.Closed.{advanceBy, advanced}
 use Rattle.phase.specs.Operation.{kindOf}
 use Rattle.phase.specs.State.{runLimit}
 use Rattle.phase.specs.Tick.{started, nextBy, nextState, stateAfter, phaseStart, phaseTrip, tripBy}
-use Rattle.phase.proofs.StartLaws.{started-stays, by-start}
+use Rattle.phase.proofs.StartLaws.{start-stays, by-start}
 
 -- equal parts, equal states
 pub same-state : {s s' r r' d d' : ℕ} → s ≡ s' → r ≡ r' → d ≡ d' → _≡_ {A = PhaseState} (record { sum = s; run = r; drop = d }) (record { sum = s'; run = r'; drop = d' })
@@ -71,7 +71,7 @@ from-one settings g (suc n) state =
     let kind = kindOf (settings .operation) in
     let b = started settings state g in
     let walked = stateAfter settings g (suc n) state in
-    by-start (λ k x. nextBy k x settings g walked) (λ x y. refl) kind (started settings walked g) b (started-stays settings g (suc n) state)
+    by-start (λ k x. nextBy k x settings g walked) (λ x y. refl) kind (started settings walked g) b (start-stays settings g (suc n) state)
     ∙ ap (nextBy kind b settings g) (from-one settings g n state)
     ∙ again kind b settings g (suc n) state
 
@@ -87,7 +87,7 @@ trip-closed settings g n state =
     let kind = kindOf (settings .operation) in
     let b = started settings state g in
     let walked = stateAfter settings g n state in
-    by-start (λ k x. tripBy k x settings (nextState settings walked g)) (λ x y. refl) kind (started settings walked g) b (started-stays settings g n state)
+    by-start (λ k x. tripBy k x settings (nextState settings walked g)) (λ x y. refl) kind (started settings walked g) b (start-stays settings g n state)
     ∙ ap (tripBy kind b settings) (from-one settings g n state)
 
 pub next-closed : (settings : Settings) (g : ℕ) (state : PhaseState) → nextState settings state g ≡ advanced settings g 1 state

@@ -1,4 +1,4 @@
--- One phase tick (01, 'One phase tick'), rule by rule.
+-- One phase tick (01, 'One phase tick'; 02, E3), rule by rule.
 use Prim.Native.Nat.{ℕ, zero, suc, _+_, _-_, _*_, min}
 use mathlib.Core.Bool.{Bool, true, false, cond, _&&_}
 use mathlib.Core.List.{List, [], _∷_, _++_}
@@ -28,8 +28,8 @@ gainAt settings g = gainOf (settings .operation) (ratioOf g (settings .«start_c
 abbrev pub lossAt : Settings → ℕ → ℕ
 lossAt settings g = lossOf (settings .operation) (ratioOf g (settings .«start_current»))
 
--- 2. as document 02, E3 amends it: "a phase that was started on its last tick (run above 0) stays started while g is at least
--- 95 x s; a phase that wasn't still needs g greater than 100 x s."
+-- 2. as E3 amends it: "a phase that was started on its last tick (run above 0) stays started while g is at least 95 x s; a phase
+-- that wasn't still needs g greater than 100 x s."
 unfoldable pub started : Settings → PhaseState → ℕ → Bool
 started settings state g =
     cond (ltb 0 (state .run)) (leb (95 * settings .«start_current») g) (ltb (100 * settings .«start_current») g)
