@@ -61,14 +61,17 @@ valid-in-limits settings state e =
       sum = leb-true (state .sum) (tripLevel settings) sum;
       run = leb-true (state .run) runLimit run;
       drop = leb-true (state .drop) runLimit drop;
-      kind = own;
     }
+
+pub valid-kind : (settings : Settings) (state : PhaseState) → valid settings state ≡ true → validFor (kindOf (settings .operation)) state ≡ true
+unfolding valid
+valid-kind settings state e =
+    both-true (leb (state .sum) (tripLevel settings) && validCounts state) (validFor (kindOf (settings .operation)) state) e .1
 
 pub ready : (settings : Settings) (state : PhaseState) (g : ℕ) → InRange settings → valid settings state ≡ true → Ready settings (paceOf settings g) state
 unfolding paceOf
 ready settings state g range e =
-    let limits = valid-in-limits settings state e in
-    record { range = range; gain = refl; loss = refl; sum = limits .sum; run = limits .run; drop = limits .drop }
+    record { range = range; gain = refl; loss = refl; limits = valid-in-limits settings state e }
 
 -- settings and a state that pass, and what comes after them
 pub phase-passed : (settings : Settings) (state : PhaseState) (rest : ℕ) → firstFailed (phaseChecks settings state) rest ≡ 0 → InRange settings × (valid settings state ≡ true) × (rest ≡ 0)

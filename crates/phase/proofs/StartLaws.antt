@@ -19,7 +19,7 @@ use Rattle.phase.specs.Operation.{kindOf}
 use Rattle.phase.specs.Settings.{tripLevel}
 use Rattle.phase.specs.State.{valid, validFor}
 use Rattle.phase.specs.Tick.{gainAt, countUp, started, nextBy, nextState, stateAfter, startBy, phaseStart}
-use Rattle.phase.proofs.Accepted.{valid-in-limits}
+use Rattle.phase.proofs.Accepted.{valid-in-limits, valid-kind}
 
 -- ---- equal samples
 
@@ -68,5 +68,4 @@ no-gain (On (Curve rule)) true settings g state on small v flat = omega (arith, 
 pub sum-stands-still : (settings : Settings) (state : PhaseState) (g : ℕ) → valid settings state ≡ true → phaseStart settings state g ≡ true → ratioOf g (settings .«start_current») ≤ 100 → nextState settings state g .sum ≡ state .sum
 unfolding phaseStart nextState
 sum-stands-still settings state g v on low =
-    let limits = valid-in-limits settings state v in
-    no-gain (kindOf (settings .operation)) (started settings state g) settings g state on (limits .sum) (limits .kind) (gain-zero-to-100 (settings .operation) _ low)
+    no-gain (kindOf (settings .operation)) (started settings state g) settings g state on (valid-in-limits settings state v .sum) (valid-kind settings state v) (gain-zero-to-100 (settings .operation) _ low)

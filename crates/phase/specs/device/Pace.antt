@@ -1,13 +1,11 @@
 -- A device of the code: what one sample does to a sum, worked out once.
-use Prim.Native.Nat.{ℕ, _≤_}
+use Prim.Native.Nat.{ℕ}
 use mathlib.Core.Path.{_≡_}
 use Rattle.phase.specs.declared.pace.Pace.{Pace}
 use Rattle.phase.specs.declared.settings.Settings.{Settings}
 use Rattle.phase.specs.declared.state.PhaseState.{PhaseState}
-use Rattle.phase.specs.Settings.{tripLevel}
-use Rattle.phase.specs.State.{runLimit}
 use Rattle.phase.specs.Tick.{gainAt, lossAt}
-use Rattle.phase.specs.device.Ranges.{InRange}
+use Rattle.phase.specs.device.Ranges.{InRange, InLimits}
 
 unfoldable pub paceOf : Settings → ℕ → Pace
 paceOf settings g = record { sample = g; gain = gainAt settings g; loss = lossAt settings g }
@@ -17,6 +15,4 @@ pub record Ready (settings : Settings) (pace : Pace) (state : PhaseState) : Type
   pub range : InRange settings
   pub gain : pace .gain ≡ gainAt settings (pace .sample)
   pub loss : pace .loss ≡ lossAt settings (pace .sample)
-  pub sum : state .sum ≤ tripLevel settings
-  pub run : state .run ≤ runLimit
-  pub drop : state .drop ≤ runLimit
+  pub limits : InLimits settings state

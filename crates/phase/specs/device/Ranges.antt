@@ -1,13 +1,10 @@
 -- A device of code and proof: what they go by of settings that the check accepts (`settings-passed` of `proofs/`), and of a valid
 -- state (`valid-in-limits` there).
 use Prim.Native.Nat.{_≤_}
-use mathlib.Core.Bool.{true}
-use mathlib.Core.Path.{_≡_}
 use Rattle.phase.specs.declared.settings.Settings.{Settings}
 use Rattle.phase.specs.declared.state.PhaseState.{PhaseState}
-use Rattle.phase.specs.Operation.{kindOf}
 use Rattle.phase.specs.Settings.{tripLevel}
-use Rattle.phase.specs.State.{runLimit, validFor}
+use Rattle.phase.specs.State.{runLimit}
 
 pub record InRange (settings : Settings) : Type 0 where
   pub operation : settings .operation ≤ 12
@@ -27,4 +24,3 @@ pub record InLimits (settings : Settings) (state : PhaseState) : Type 0 where
   pub sum : state .sum ≤ tripLevel settings
   pub run : state .run ≤ runLimit
   pub drop : state .drop ≤ runLimit
-  pub kind : validFor (kindOf (settings .operation)) state ≡ true
