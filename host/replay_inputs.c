@@ -6,74 +6,28 @@
  * Always the same inputs: chances come from a fixed seed.
  */
 #define _DEFAULT_SOURCE
+#include "inputs.h"
+
 #include <poll.h>
 #include <signal.h>
 #include <stdbool.h>
-#include <stdint.h>
 #include <stdio.h>
 #include <stdlib.h>
 #include <string.h>
 #include <sys/ioctl.h>
 #include <unistd.h>
 
-/* ---- The input being written ---- */
+enum { PORTION = 64 * 1024 };
 
-enum { LONGEST = 512 * 1024, PORTION = 64 * 1024 };
-
-static char text[LONGEST];
-static size_t used;
 static const char *folder;
 static int kept;
-
-static void fail(const char *what)
-{
-    perror(what);
-    exit(1);
-}
-
-static void add_bytes(const char *bytes, size_t count)
-{
-    if (count > LONGEST - used)
-        fail("an input is too long");
-    memcpy(text + used, bytes, count);
-    used += count;
-}
-
-static void add(const char *words)
-{
-    add_bytes(words, strlen(words));
-}
-
-static void fill(char byte, size_t count)
-{
-    while (count-- > 0)
-        add_bytes(&byte, 1);
-}
-
-static void add_number(uint64_t value, int width)
-{
-    char digits[32];
-    add_bytes(digits, (size_t)snprintf(digits, sizeof digits, "%0*llu", width,
-                                       (unsigned long long)value));
-}
 
 /* Files what was added as an input of its own, and starts the next. */
 static void keep(const char *label)
 {
     char path[4096];
     snprintf(path, sizeof path, "%s/%05d_%s", folder, ++kept, label);
-    FILE *file = fopen(path, "wb");
-    if (file == NULL || fwrite(text, 1, used, file) != used || fclose(file) != 0)
-        fail(path);
-    used = 0;
-}
-
-static uint64_t seed = 1;
-
-static uint32_t chance(uint32_t below)
-{
-    seed = seed * 6364136223846793005u + 1442695040888963407u;
-    return (uint32_t)(seed >> 33) % below;
+    write_input(path);
 }
 
 /* ---- A short recording, whole and hurt ---- */

@@ -2,11 +2,15 @@
  * The programs replay, record and explain in plain C, over plain.c's tick. They
  * share no code with the proved ones, so that they can be compared.
  *   replay_plain replay        writes the changes and the end line
+ *   replay_plain replay --config FILE
+ *                              the same with the recorder's configuration; says which of its lines
+ *                              is refused on standard error
  *   replay_plain record        writes a row for each row done; says a refusal on standard error
  *   replay_plain explain ROW   writes why each phase did or did not trip in that row; says a
  *                              refusal up to it, or that there is no such row, on standard error
  * Standard input to standard output. Words in quotes are the documents'.
  */
+#include "config_plain.h"
 #include "plain.h"
 
 #include <stdio.h>
@@ -14,7 +18,8 @@
 #include <string.h>
 #include <unistd.h>
 
-enum refusal { ACCEPTED = 0, WRONG_SHAPE = 12, WRONG_NUMBER = 13, WRONG_BLOCK = 14 };
+enum refusal { ACCEPTED = 0, WRONG_SHAPE = 12, WRONG_NUMBER = 13, WRONG_BLOCK = 14,
+               WRONG_LAST_SAMPLE = 28 };
 
 /* ---- Input: "in portions of at most 64 KiB" ---- */
 
@@ -176,10 +181,14 @@ static void write_record_row(unsigned number, const uint32_t g[3], uint8_t out)
 
 enum form { REPLAY, RECORD, EXPLAIN };
 
-/* What is written, and of the rows up to which; of the last one alone for an explanation. */
+/*
+ * What is written, and of the rows up to which; of the last one alone for an explanation.
+ * The configuration is a file, or NULL for none.
+ */
 struct asked {
     enum form form;
     uint32_t last_row;
+    const char *config;
 };
 
 /*
@@ -226,16 +235,33 @@ static void write_end(struct asked asked, bool settings_right, unsigned rows_don
                 rows_done);
 }
 
+/* "The end line keeps its form; the line number goes to standard error." */
+static uint32_t read_config(const char *path, uint64_t *last_sample)
+{
+    struct plain_config config = plain_read_config_file(path);
+    if (config.refusal != ACCEPTED)
+        fprintf(stderr, "line %u of the configuration is refused with %u: \n", (unsigned)config.line,
+                (unsigned)config.refusal);
+    *last_sample = config.last_sample;
+    return config.refusal;
+}
+
+/* "the settings line first (12, 1 to 7); then the configuration (18 to 27)"; "then the rows" */
 static void answer(struct asked asked)
 {
     struct plain_settings set;
     uint32_t rows_done = 0;
+    uint64_t last_sample = 0;
     uint32_t refusal = read_settings(&set);
     bool settings_right = refusal == ACCEPTED;
-    if (settings_right) {
+    if (settings_right && asked.config != NULL)
+        refusal = read_config(asked.config, &last_sample);
+    if (refusal == ACCEPTED) {
         if (plain_needs_powers(&set))
             plain_fill_powers();
         refusal = replay_rows(&set, asked, &rows_done);
+        if (refusal == ACCEPTED && asked.config != NULL && rows_done != last_sample)
+            refusal = WRONG_LAST_SAMPLE;
     }
     write_end(asked, settings_right, rows_done, refusal);
 }
@@ -253,17 +279,19 @@ static uint32_t row_number(const char *word)
 int main(int count, char **words)
 {
     const char *form = count > 1 ? words[1] : "";
-    struct asked asked = {REPLAY, UINT32_MAX};
+    struct asked asked = {REPLAY, UINT32_MAX, NULL};
     if (strcmp(form, "explain") == 0) {
-        asked = (struct asked){EXPLAIN, count == 3 ? row_number(words[2]) : 0};
+        asked = (struct asked){EXPLAIN, count == 3 ? row_number(words[2]) : 0, NULL};
         if (asked.last_row == 0) {
             fputs("failed: explain takes one row number, 1 to 999999\n", stderr);
             return 0; /* as the proved one, which has no status of its own */
         }
     } else if (count == 2 && strcmp(form, "record") == 0) {
         asked.form = RECORD;
+    } else if (count == 4 && strcmp(form, "replay") == 0 && strcmp(words[2], "--config") == 0) {
+        asked.config = words[3];
     } else if (count != 2 || strcmp(form, "replay") != 0) {
-        fputs("usage: replay_plain replay|record|explain ROW\n", stderr);
+        fputs("usage: replay_plain replay [--config FILE]|record|explain ROW\n", stderr);
         return 2;
     }
     answer(asked);

@@ -1,11 +1,16 @@
 #!/usr/bin/env python3
-"""Writes the recordings of this folder. Each is a settings line and data rows, one row a millisecond.
+"""Writes the recordings of this folder, and the configurations. A recording is a settings line and data rows, one row a
+millisecond.
 
 A phase's current is in 0.01 % of rated current; with the start current 200 % (s 200), 40000 is twice the setting.
 """
 import pathlib
 
 here = pathlib.Path(__file__).parent
+
+
+def write_lines(name, lines):
+    (here / name).write_bytes("".join(line + "\r\n" for line in lines).encode())
 
 
 def recording(name, settings, ticks):
@@ -15,7 +20,19 @@ def recording(name, settings, ticks):
         for _ in range(count):
             n += 1
             lines.append(f"{n},{1000 * (n - 1)},{l1},{l2},{l3},{block}")
-    (here / name).write_bytes("".join(line + "\r\n" for line in lines).encode())
+    write_lines(name, lines)
+
+
+def analogue(index, factor):
+    """a current of a recorder's configuration, with its conversion factor a"""
+    return f"{index},IL{index},L{index},Feeder 7,0.01%In,{factor},0.0,0.0,0,9999999,400.0,1.0,P"
+
+
+def configuration(name, factors, rows):
+    """a recorder's configuration: 50 Hz, 1000 samples a second, so many rows; the trigger is at the fault, row 101"""
+    write_lines(name, [
+        "Northfield 132/33 kV,Recorder 2,1999", "4,3A,1D", *map(analogue, (1, 2, 3), factors), "1,Block,,Feeder 7,0",
+        "50", "1", f"1000,{rows}", "14/03/2003,16:20:04.102000", "14/03/2003,16:20:04.202000", "ASCII", "1"])
 
 
 # A fault that changes while the relay counts: half the way at twice the setting, then at five times.
@@ -32,3 +49,8 @@ recording("chatter.csv", "1,200,100,40,100,60,0", 15 * [(6, 20200, 0, 0, 0), (4,
 recording("damaged_row.csv", "1,200,100,40,40,60,0", [(60, 20001, 0, 0, 0)])
 path = here / "damaged_row.csv"
 path.write_bytes(path.read_bytes().replace(b"30,29000,20001,", b"30,29000,2000x,"))
+# A fault between L2 and L3 as a recorder has it: load, five times the setting, and the open breaker, which the relay drops out at.
+recording("recorder.csv", "3,200,5,40,40,60,0", [(100, 9100, 9000, 8900, 0), (190, 9100, 100000, 100000, 0), (30, 0, 0, 0, 0)])
+configuration("recorder.cfg", ("1.0", "1.0", "1.0"), 320)
+# The same recorder with another range on L2: its numbers would have to be ten times as large.
+configuration("recorder_scaled.cfg", ("1.0", "10.0", "1.0"), 320)

@@ -4,6 +4,7 @@
 mod asked;
 
 use asked::asked_row;
+use files::Configuration;
 use files::EXPLAIN_SPREAD;
 use files::Form;
 use files::LONGEST_LINE;
@@ -26,7 +27,12 @@ fn say_missing(row: u32, done: u32) {
 fn explain(row: u32) {
     let mut portion = [0u8; SMALL_PORTION];
     let mut out = [0u8; ROOM];
-    let end = runs::run(Form::Explain(row), &mut portion, &mut out);
+    let end = runs::run(
+        Form::Explain(row),
+        Configuration::Absent,
+        &mut portion,
+        &mut out,
+    );
     if end.failed {
         return;
     }

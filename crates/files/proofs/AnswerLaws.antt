@@ -8,13 +8,16 @@ use native.Mathlib.Omega.{arith}
 use lib.Dec.{leb, ltb}
 use lib.ListN.{length}
 use borrow.Author.Tests.{le-leb, lt-leb, lt-ltb, leb-true, ltb-true}
+use Rattle.config.specs.Config.{configOf}
+use Rattle.files.specs.declared.configuration.Configuration.{Configuration}
+use Rattle.files.specs.declared.configuration.Configuration.the-variants.{Absent, Given}
 use Rattle.files.specs.declared.output.Form.{Form}
 use Rattle.files.specs.declared.output.Form.the-variants.{Changes, Record, Explain}
 use Rattle.files.specs.declared.replay.Replay.{Replay}
 use Rattle.files.specs.declared.replay.Fed.{Fed}
 use Rattle.text.specs.Lines.{joined}
 use Rattle.files.specs.Output.{spread, endRoom}
-use Rattle.files.specs.Replay.{Told, writtenFirst, toldOf, replayOf, recordOf, explanationOf, longestLine, lineLimit, freshReplay, portionRoom, fed, writes, takes, fedBy, fedIf, feedAnswer, writesIf, feedWrites, endsWith, finishIf, finishWrites}
+use Rattle.files.specs.Replay.{Told, writtenFirst, toldOf, notesAndEnd, replayOf, configuredReplayOf, recordOf, explanationOf, longestLine, lineLimit, freshReplay, portionRoom, fed, writes, takes, fedBy, fedIf, feedAnswer, writesIf, feedWrites, endsWith, finishIf, finishWrites}
 use Rattle.files.specs.device.Calls.{Sound}
 use Rattle.checks.proofs.Tests.{both-true, leb-iff}
 use Rattle.files.proofs.PortionLaws.{fed-form, fed-sound, fresh-sound, toldByPortions, told-of-portions}
@@ -112,13 +115,18 @@ module _ (room last : ℕ) (k : endRoom ≤ last) where
       let q : feedAnswer r p room .state ≡ fed r p = ap (λ (x : Fed). x .state) (taken-answer r p room t) in
       rw (taken-writes r p room t, q) (ap (writtenFirst (writes r p)) (handed-fed (fed r p) ps (fed-sound r p h) (rw (fed-form r p) (both-true here (roomFor (r .form) ps room) e .1))))
 
-  pub told-of-calls : (form : Form) (ps : List (List ℕ)) → roomFor form ps room ≡ true → handedOut (freshReplay form) ps room last ≡ toldOf form (joined ps)
-  told-of-calls form ps e = handed-fed (freshReplay form) ps (fresh-sound form) e ∙ told-of-portions form ps
+  pub told-of-calls : (form : Form) (c : Configuration) (ps : List (List ℕ)) → roomFor form ps room ≡ true → handedOut (freshReplay form c) ps room last ≡ toldOf form c (joined ps)
+  told-of-calls form c ps e = handed-fed (freshReplay form c) ps (fresh-sound form c) e ∙ told-of-portions form c ps
 
   -- WHAT A TESTER RELIES ON: whatever the portions, what the calls hand out is the replay of the whole input
   pub replay-of-calls : (ps : List (List ℕ)) → roomFor Changes ps room ≡ true
-      → let x : Told = handedOut (freshReplay Changes) ps room last in x .notes ++ x .end ≡ replayOf (joined ps)
-  replay-of-calls ps e = ap (λ (x : Told). x .notes ++ x .end) (told-of-calls Changes ps e)
+      → notesAndEnd (handedOut (freshReplay Changes Absent) ps room last) ≡ replayOf (joined ps)
+  replay-of-calls ps e = ap notesAndEnd (told-of-calls Changes Absent ps e)
+
+  -- and with a configuration, from what its reader answered
+  pub configured-replay-of-calls : (c : List ℕ) (ps : List (List ℕ)) → roomFor Changes ps room ≡ true
+      → notesAndEnd (handedOut (freshReplay Changes (Given (configOf c))) ps room last) ≡ configuredReplayOf c (joined ps)
+  configured-replay-of-calls c ps e = ap notesAndEnd (told-of-calls Changes (Given (configOf c)) ps e)
 
 -- what comes before the end does not depend on the end's room
 notes-alone : (r : Replay) (ps : List (List ℕ)) (room a b : ℕ) → handedOut r ps room a .notes ≡ handedOut r ps room b .notes
@@ -126,14 +134,14 @@ unfolding handedOut
 notes-alone r [] room a b = refl
 notes-alone r (p ∷ ps) room a b = ap (λ (w : List ℕ). feedWrites r p room ++ w) (notes-alone (feedAnswer r p room .state) ps room a b)
 
-notes-of-calls : (form : Form) (ps : List (List ℕ)) (room last : ℕ) → roomFor form ps room ≡ true → handedOut (freshReplay form) ps room last .notes ≡ toldOf form (joined ps) .notes
+notes-of-calls : (form : Form) (ps : List (List ℕ)) (room last : ℕ) → roomFor form ps room ≡ true → handedOut (freshReplay form Absent) ps room last .notes ≡ toldOf form Absent (joined ps) .notes
 notes-of-calls form ps room last e =
-    notes-alone (freshReplay form) ps room last endRoom ∙ ap (λ (x : Told). x .notes) (told-of-calls room endRoom (omega arith) form ps e)
+    notes-alone (freshReplay form Absent) ps room last endRoom ∙ ap (λ (x : Told). x .notes) (told-of-calls room endRoom (omega arith) form Absent ps e)
 
 -- WHAT A VIEWER RELIES ON: whatever the portions, what the calls hand out before the end is the record of the whole input
-pub record-of-calls : (ps : List (List ℕ)) (room last : ℕ) → roomFor Record ps room ≡ true → handedOut (freshReplay Record) ps room last .notes ≡ recordOf (joined ps)
+pub record-of-calls : (ps : List (List ℕ)) (room last : ℕ) → roomFor Record ps room ≡ true → handedOut (freshReplay Record Absent) ps room last .notes ≡ recordOf (joined ps)
 record-of-calls = notes-of-calls Record
 
 -- WHAT A STUDENT RELIES ON: and the same of the explanation of a row
-pub explanation-of-calls : (row : ℕ) (ps : List (List ℕ)) (room last : ℕ) → roomFor (Explain row) ps room ≡ true → handedOut (freshReplay (Explain row)) ps room last .notes ≡ explanationOf row (joined ps)
+pub explanation-of-calls : (row : ℕ) (ps : List (List ℕ)) (room last : ℕ) → roomFor (Explain row) ps room ≡ true → handedOut (freshReplay (Explain row) Absent) ps room last .notes ≡ explanationOf row (joined ps)
 explanation-of-calls row = notes-of-calls (Explain row)

@@ -15,6 +15,7 @@ use Rattle.rows.specs.Row.{rowAnswer}
 use Rattle.rows.specs.SettingsLine.{settingsLineAnswer}
 use Rattle.text.specs.declared.lines.Closer.the-variants.{CrLf}
 use Rattle.text.specs.Lines.{linesOf}
+use Rattle.files.specs.declared.configuration.Configuration.the-variants.{Absent}
 use Rattle.files.specs.declared.output.Form.the-variants.{Explain}
 use Rattle.files.specs.declared.progress.Stage.{Stage}
 use Rattle.files.specs.declared.progress.Stage.the-variants.{Opening, Running, Stopped}
@@ -28,16 +29,16 @@ use Rattle.files.proofs.RefusedLaws.{by-cons, by-nil}
 
 -- the lines before some, and those
 explanation-from : (row : ℕ) (s : List ℕ) (ls ms : List (List ℕ)) → linesOf CrLf s ≡ ls ++ ms
-    → explanationOf row s ≡ wroteLines (Explain row) freshProgress ls ++ byLines (Explain row) (afterLines freshProgress ls) ms .notes
+    → explanationOf row s ≡ wroteLines (Explain row) (freshProgress Absent) ls ++ byLines (Explain row) (afterLines (freshProgress Absent) ls) ms .notes
 unfolding toldOf
 explanation-from row s ls ms e =
-    ap (λ (x : Told). x .notes) (ap (byLines (Explain row) freshProgress) e ∙ by-lines-append (Explain row) freshProgress ls ms)
+    ap (λ (x : Told). x .notes) (ap (byLines (Explain row) (freshProgress Absent)) e ∙ by-lines-append (Explain row) (freshProgress Absent) ls ms)
 
 -- nothing is written where the recording does not come to the row, refused or not
-pub no-explanation : (row : ℕ) (s : List ℕ) → afterLines freshProgress (linesOf CrLf s) .done < row → explanationOf row s ≡ []
+pub no-explanation : (row : ℕ) (s : List ℕ) → afterLines (freshProgress Absent) (linesOf CrLf s) .done < row → explanationOf row s ≡ []
 no-explanation row s h =
     let ls = linesOf CrLf s in
-    explanation-from row s ls [] (sym (append-nil ls)) ∙ rw (quiet-before row freshProgress ls h, by-nil (Explain row) (afterLines freshProgress ls))
+    explanation-from row s ls [] (sym (append-nil ls)) ∙ rw (quiet-before row (freshProgress Absent) ls h, by-nil (Explain row) (afterLines (freshProgress Absent) ls))
 
 -- ---- a row that is done stands in a line
 
@@ -111,18 +112,18 @@ row-found row p (l ∷ ls) low high =
 -- the line of the asked row, after the lines before it
 module _ (row : ℕ) (ls : List (List ℕ)) (l : List ℕ) (x : Row) where
   abbrev before : Progress
-  before = afterLines freshProgress ls
+  before = afterLines (freshProgress Absent) ls
 
   module _ (running : before .stage ≡ Running) (e : rowAnswer l (before .done) ≡ Accepted x) (asked : before .done + 1 ≡ row) where
     row-writes : wroteLine (Explain row) before l ≡ explainedLines (before .settings) (before .relay) (x .l1) (x .l2) (x .l3) (x .block)
     unfolding wroteBy
     row-writes =
-        let (accepted, is-valid, bit) = row-allowed ls l x running e in
-        rw (running, e, eq-eqb _ 0 (no-tick-refused ls l x running e), eq-eqb (before .done + 1) row asked)
+        let (accepted, is-valid, bit) = row-allowed Absent ls l x running e in
+        rw (running, e, eq-eqb _ 0 (no-tick-refused Absent ls l x running e), eq-eqb (before .done + 1) row asked)
         (lines-explained (before .settings) (before .relay) (x .l1) (x .l2) (x .l3) (x .block) accepted is-valid bit)
 
     done-after : afterLine before l .done ≡ row
-    done-after = ap (λ (p : Progress). p .done) (accepted-row-is-done ls l x running e) ∙ asked
+    done-after = ap (λ (p : Progress). p .done) (accepted-row-is-done Absent ls l x running e) ∙ asked
 
     -- WHAT `explain ROW` WRITES: the reason of each phase in the row's tick, from the state that the rows before it left, and
     -- nothing else, whatever follows
@@ -130,18 +131,18 @@ module _ (row : ℕ) (ls : List (List ℕ)) (l : List ℕ) (x : Row) where
         → explanationOf row s ≡ explainedLines (before .settings) (before .relay) (x .l1) (x .l2) (x .l3) (x .block)
     explanation-of-row s ms cut =
         explanation-from row s ls (l ∷ ms) cut
-        ∙ rw (quiet-before row freshProgress ls (omega (arith, asked)), by-cons (Explain row) before l ms, row-writes)
+        ∙ rw (quiet-before row (freshProgress Absent) ls (omega (arith, asked)), by-cons (Explain row) before l ms, row-writes)
         (rw (quiet-after row (afterLine before l) ms (omega (arith, done-after))) (append-nil _))
 
 -- so every row done is explained: where the recording comes to it, its line was found and this is written of it
 pub record RowExplained (row : ℕ) (s : List ℕ) : Type 0 where
-  pub found : RowIn row freshProgress (linesOf CrLf s)
+  pub found : RowIn row (freshProgress Absent) (linesOf CrLf s)
   pub written :
-      let before : Progress = afterLines freshProgress (found .before) in
+      let before : Progress = afterLines (freshProgress Absent) (found .before) in
       let x : Row = found .x in
       explanationOf row s ≡ explainedLines (before .settings) (before .relay) (x .l1) (x .l2) (x .l3) (x .block)
 
-pub every-row-explained : (row : ℕ) (s : List ℕ) → 0 < row → row ≤ afterLines freshProgress (linesOf CrLf s) .done → RowExplained row s
+pub every-row-explained : (row : ℕ) (s : List ℕ) → 0 < row → row ≤ afterLines (freshProgress Absent) (linesOf CrLf s) .done → RowExplained row s
 every-row-explained row s some high =
-    let r = row-found row freshProgress (linesOf CrLf s) some high in
+    let r = row-found row (freshProgress Absent) (linesOf CrLf s) some high in
     record { found = r; written = explanation-of-row row (r .before) (r .line) (r .x) (r .running) (r .accepted) (r .asked) s (r .after) (r .cut) }

@@ -6,5 +6,6 @@ pub mod PortionLaws
 pub mod FeedLaws
 pub mod AnswerLaws
 pub mod ReplayLaws
+pub mod ConfigurationLaws
 pub mod NeverRefused
 pub mod ExplanationLaws

@@ -11,6 +11,9 @@ use Rattle.relay.specs.State.{clearRelay, validRelay}
 use Rattle.relay.specs.declared.tick.RelayTicked.{RelayTicked}
 use Rattle.relay.specs.Tick.{relayTickRefusal}
 use Rattle.relay.proofs.RelayLaws.{clear-relay-is-valid, relay-tick-allowed, relay-tick-accepted, relay-tick-keeps-valid}
+use Rattle.config.specs.declared.reader.ConfigRead.the-variants as config-read
+use Rattle.files.specs.declared.configuration.Configuration.{Configuration}
+use Rattle.files.specs.declared.configuration.Configuration.the-variants.{Absent, Given}
 use Rattle.files.specs.declared.progress.Progress.{Progress}
 use Rattle.files.specs.declared.progress.Stage.{Stage}
 use Rattle.files.specs.declared.progress.Stage.the-variants.{Opening, Running, Stopped}
@@ -19,6 +22,7 @@ use Rattle.rows.specs.declared.row.RowRead.{RowRead}
 use Rattle.rows.specs.declared.row.RowRead.the-variants as row
 use Rattle.rows.specs.declared.settings_line.SettingsRead.{SettingsRead}
 use Rattle.rows.specs.declared.settings_line.SettingsRead.the-variants as settings-line
+use Rattle.files.specs.Configuration.{afterSettings}
 use Rattle.files.specs.Progress.{freshProgress, opened, ticked, rowDone, afterTick, stepped, afterBy, afterLine}
 use Rattle.files.specs.Replay.{afterLines}
 use Rattle.rows.specs.Row.{rowAnswer}
@@ -34,8 +38,15 @@ Right Opening p = p .relay ≡ clearRelay
 Right Running p = (settingsRefusal (p .settings) ≡ 0) × (validRelay (p .settings) (p .relay) ≡ true)
 Right (Stopped n) p = Unit {0}
 
+-- a configuration changes nothing but the stage
+settings-right : (c : Configuration) (p : Progress) → Right Running p → Right (afterSettings c) p
+settings-right Absent p right = right
+settings-right (Given (config-read.Accepted last)) p right = right
+settings-right (Given (config-read.Refused x)) p right = tt
+
 opened-right : (p : Progress) (answer : SettingsRead) → p .relay ≡ clearRelay → ((x : Settings) → answer ≡ settings-line.Accepted x → settingsRefusal x ≡ 0) → Right (opened p answer .stage) (opened p answer)
-opened-right p (settings-line.Accepted x) e h = (h x refl, rw e (clear-relay-is-valid x))
+opened-right p (settings-line.Accepted x) e h =
+    settings-right (p .configuration) (opened p (settings-line.Accepted x)) (h x refl, rw e (clear-relay-is-valid x))
 opened-right p (settings-line.Refused n) e h = tt
 
 tick-right : (p : Progress) (x : Row) → Right Running p → x .block ≤ 1 → relayTickRefusal (p .settings) (p .relay) (x .block) ≡ 0
@@ -67,13 +78,13 @@ lines-keep p [] right = right
 lines-keep p (l ∷ ls) right = lines-keep (afterLine p l) ls (line-keeps (p .stage) p l refl right)
 
 -- after any lines from the fresh start, the tick of an accepted row is accepted, and the row is done
-module _ (ls : List (List ℕ)) (l : List ℕ) (x : Row) where
+module _ (c : Configuration) (ls : List (List ℕ)) (l : List ℕ) (x : Row) where
   abbrev reached : Progress
-  reached = afterLines freshProgress ls
+  reached = afterLines (freshProgress c) ls
 
   module _ (running : reached .stage ≡ Running) (e : rowAnswer l (reached .done) ≡ row.Accepted x) where
     right-reached : Right Running reached
-    right-reached = rw running at (lines-keep freshProgress ls refl)
+    right-reached = rw running at (lines-keep (freshProgress c) ls refl)
 
     -- its settings, state and block are accepted ones
     pub row-allowed : (settingsRefusal (reached .settings) ≡ 0) × (validRelay (reached .settings) (reached .relay) ≡ true) × (x .block ≤ 1)

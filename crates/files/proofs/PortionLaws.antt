@@ -8,6 +8,7 @@ use native.Mathlib.Omega.{arith}
 use lib.Dec.{ltb}
 use lib.ListN.{length, length-take}
 use borrow.Author.Tests.{leb-true, ltb-true, ltb-false}
+use Rattle.files.specs.declared.configuration.Configuration.{Configuration}
 use Rattle.files.specs.declared.output.Form.{Form}
 use Rattle.files.specs.declared.output.Form.the-variants.{Changes, Record, Explain}
 use Rattle.files.specs.declared.progress.Stage.{Stage}
@@ -28,8 +29,8 @@ use Rattle.files.proofs.RefusedLaws.{by-nil, stopped-ends, refused-ends
 
 -- ---- a sound state stays sound
 
-pub fresh-sound : (form : Form) → Sound (freshReplay form)
-fresh-sound form = empty-holds CrLf lineLimit (omega arith)
+pub fresh-sound : (form : Form) (c : Configuration) → Sound (freshReplay form c)
+fresh-sound form c = empty-holds CrLf lineLimit (omega arith)
 
 pub fed-sound : (r : Replay) (s : List ℕ) → Sound r → Sound (fed r s)
 unfolding fed
@@ -136,9 +137,9 @@ portions-left r [] h = rw joined-none (sym (left-end r h))
 portions-left r (p ∷ ps) h = rw (joined-more p ps, portions-left (fed r p) ps (fed-sound r p h)) (sym (left-fed r p (joined ps) h))
 
 -- WHAT IS WRITTEN DOES NOT DEPEND ON THE PORTIONS: for any cutting of the input it is what the whole input gives
-pub told-of-portions : (form : Form) (ps : List (List ℕ)) → toldByPortions (freshReplay form) ps ≡ toldOf form (joined ps)
+pub told-of-portions : (form : Form) (c : Configuration) (ps : List (List ℕ)) → toldByPortions (freshReplay form c) ps ≡ toldOf form c (joined ps)
 unfolding toldOf left
-told-of-portions form ps = portions-left (freshReplay form) ps (fresh-sound form)
+told-of-portions form c ps = portions-left (freshReplay form c) ps (fresh-sound form c)
 
 -- ---- once stopped, what follows need not be read
 

@@ -13,6 +13,7 @@ use Rattle.rows.specs.declared.row.RowRead.{RowRead}
 use Rattle.rows.specs.declared.row.RowRead.the-variants as row
 use Rattle.rows.specs.declared.settings_line.SettingsRead.{SettingsRead}
 use Rattle.rows.specs.declared.settings_line.SettingsRead.the-variants as settings-line
+use Rattle.files.specs.declared.configuration.Configuration.{Configuration}
 use Rattle.files.specs.declared.output.Form.{Form}
 use Rattle.files.specs.declared.progress.Stage.{Stage}
 use Rattle.files.specs.declared.progress.Stage.the-variants.{Opening, Running, Stopped}
@@ -20,6 +21,7 @@ use Rattle.files.specs.declared.progress.Progress.{Progress}
 use Rattle.rows.specs.Refusals.{wrongShape}
 use Rattle.rows.specs.Row.{rowAnswer}
 use Rattle.rows.specs.SettingsLine.{settingsLineAnswer}
+use Rattle.files.specs.Configuration.{afterSettings, lastRefusal}
 use Rattle.files.specs.Output.{noteOf, endLine}
 
 -- no settings have been read yet
@@ -35,17 +37,37 @@ noSettings = record {
 }
 
 -- "The program starts from the clear state"; the byte before the first is "0 at first"
-abbrev pub freshProgress : Progress
-freshProgress = record { stage = Opening; settings = noSettings; relay = clearRelay; done = 0; outputs = 0 }
+abbrev pub freshProgress : Configuration → Progress
+freshProgress c = record {
+  configuration = c;
+  stage = Opening;
+  settings = noSettings;
+  relay = clearRelay;
+  done = 0;
+  outputs = 0;
+}
 
 -- "After a refusal it stops."
 abbrev pub stopped : ℕ → Progress → Progress
-stopped n p = record { stage = Stopped n; settings = p .settings; relay = p .relay; done = p .done; outputs = p .outputs }
+stopped n p = record {
+  configuration = p .configuration;
+  stage = Stopped n;
+  settings = p .settings;
+  relay = p .relay;
+  done = p .done;
+  outputs = p .outputs;
+}
 
--- the settings line, accepted or refused
+-- the settings line, accepted or refused: after an accepted one the configuration is looked at
 abbrev pub opened : Progress → SettingsRead → Progress
-opened p (settings-line.Accepted x) =
-    record { stage = Running; settings = x; relay = p .relay; done = p .done; outputs = p .outputs }
+opened p (settings-line.Accepted x) = record {
+  configuration = p .configuration;
+  stage = afterSettings (p .configuration);
+  settings = x;
+  relay = p .relay;
+  done = p .done;
+  outputs = p .outputs;
+}
 opened p (settings-line.Refused n) = stopped n p
 
 -- the tick of a row: the relay's decision on its currents and block, from the state that the rows before left
@@ -54,7 +76,14 @@ ticked p x = relayTickAnswer (p .settings) (p .relay) (x .l1) (x .l2) (x .l3) (x
 
 -- a row whose tick was accepted is done
 abbrev pub rowDone : Progress → RelayTicked → Progress
-rowDone p t = record { stage = Running; settings = p .settings; relay = t .state; done = p .done + 1; outputs = t .outputs }
+rowDone p t = record {
+  configuration = p .configuration;
+  stage = Running;
+  settings = p .settings;
+  relay = t .state;
+  done = p .done + 1;
+  outputs = t .outputs;
+}
 
 -- a refused tick stops the replay too: `no-tick-refused` says that none is met from the fresh start
 abbrev pub afterTick : Progress → RelayTicked → Progress
@@ -108,12 +137,16 @@ refuse p = refuseBy (p .stage) p
 
 -- ---- the end
 
--- the refusal number; "an empty input (12)" has no settings line
-unfoldable pub endRefusal : Stage → ℕ
-endRefusal Opening = wrongShape
-endRefusal Running = 0
-endRefusal (Stopped n) = n
+-- the refusal number by the lines alone; "an empty input (12)" has no settings line
+unfoldable pub stageRefusal : Stage → ℕ
+stageRefusal Opening = wrongShape
+stageRefusal Running = 0
+stageRefusal (Stopped n) = n
+
+-- the refusal number, with the configuration's last sample number
+abbrev pub endRefusal : Progress → ℕ
+endRefusal p = lastRefusal (p .configuration) (p .done) (stageRefusal (p .stage))
 
 -- "then the end line: `end`, rows done, the refusal number"
 abbrev pub endOf : Progress → List ℕ
-endOf p = endLine (p .done) (endRefusal (p .stage))
+endOf p = endLine (p .done) (endRefusal p)

@@ -1,6 +1,7 @@
--- The replay: what it writes of its whole input (01, 'Rows and the replay program'; 02, E1 and E2), and what feeding it by
--- portions answers. The laws `replay-of-calls`, `record-of-calls` and `explanation-of-calls` say that the bytes so written, one
--- after the other, are those of `replayOf`, `recordOf` and `explanationOf`, however the input is cut.
+-- The replay: what it writes of its whole input (01, 'Rows and the replay program'; 02, E1, E2 and E4), and what feeding it by
+-- portions answers. The laws `replay-of-calls`, `record-of-calls`, `explanation-of-calls` and `configured-replay-of-calls` say
+-- that the bytes so written, one after the other, are those of `replayOf`, `recordOf`, `explanationOf` and `configuredReplayOf`,
+-- however the input is cut.
 use mathlib.Core.Path.{_≡_}
 use mathlib.Core.Bool.{Bool, true, false, _&&_}
 use mathlib.Core.List.{List, [], _∷_, _++_}
@@ -10,6 +11,9 @@ use lib.ListN.{length}
 use Rattle.text.specs.declared.lines.Closer.the-variants.{CrLf}
 use Rattle.text.specs.Lines.{linesOf, Cutting, cutting}
 use Rattle.text.specs.Cutter.{emptyCutter, heldLine, cutterAfter}
+use Rattle.config.specs.Config.{configOf}
+use Rattle.files.specs.declared.configuration.Configuration.{Configuration}
+use Rattle.files.specs.declared.configuration.Configuration.the-variants.{Absent, Given}
 use Rattle.files.specs.declared.output.Form.{Form}
 use Rattle.files.specs.declared.output.Form.the-variants.{Changes, Record, Explain}
 use Rattle.files.specs.declared.progress.Stage.{Stage}
@@ -38,20 +42,28 @@ unfoldable pub byLines : Form → Progress → List (List ℕ) → Told
 byLines form p [] = endAlone p
 byLines form p (l ∷ ls) = writtenFirst (wroteLine form p l) (byLines form (afterLine p l) ls)
 
-unfoldable pub toldOf : Form → List ℕ → Told
-toldOf form s = byLines form freshProgress (linesOf CrLf s)
+-- with or without a configuration: settings line, configuration and rows
+unfoldable pub toldOf : Form → Configuration → List ℕ → Told
+toldOf form c s = byLines form (freshProgress c) (linesOf CrLf s)
+
+abbrev pub notesAndEnd : Told → List ℕ
+notesAndEnd x = x .notes ++ x .end
 
 -- WHAT THE REPLAY WRITES, of its whole input
 abbrev pub replayOf : List ℕ → List ℕ
-replayOf s = toldOf Changes s .notes ++ toldOf Changes s .end
+replayOf s = notesAndEnd (toldOf Changes Absent s)
+
+-- WHAT THE REPLAY WRITES WITH A CONFIGURATION, of that file and its whole input
+abbrev pub configuredReplayOf : List ℕ → List ℕ → List ℕ
+configuredReplayOf c s = notesAndEnd (toldOf Changes (Given (configOf c)) s)
 
 -- WHAT THE PROGRAM `record` WRITES, of its whole input: a row of the record for each row done
 abbrev pub recordOf : List ℕ → List ℕ
-recordOf s = toldOf Record s .notes
+recordOf s = toldOf Record Absent s .notes
 
 -- WHAT THE PROGRAM `explain` WRITES for a row, of its whole input: the explanation of that row, where it is done
 abbrev pub explanationOf : ℕ → List ℕ → List ℕ
-explanationOf row s = toldOf (Explain row) s .notes
+explanationOf row s = toldOf (Explain row) Absent s .notes
 
 -- ---- a state: the form, the progress, and the cutter that holds the line that has begun
 
@@ -63,8 +75,8 @@ longestLine = 45
 abbrev pub lineLimit : ℕ
 lineLimit = longestLine + 1
 
-abbrev pub freshReplay : Form → Replay
-freshReplay form = record { form = form; progress = freshProgress; cutter = emptyCutter }
+abbrev pub freshReplay : Form → Configuration → Replay
+freshReplay form c = record { form = form; progress = freshProgress c; cutter = emptyCutter }
 
 -- ---- a portion: the lines that it closes, one after the other, and the line that it leaves begun
 
@@ -143,7 +155,7 @@ endsWith r = endOf (lastProgress r)
 
 -- the refusal number of the end line
 abbrev pub refusalAtEnd : Replay → ℕ
-refusalAtEnd r = endRefusal (lastProgress r .stage)
+refusalAtEnd r = endRefusal (lastProgress r)
 
 -- nothing is written where the output has less room than any end line may need
 unfoldable pub finishIf : Bool → Replay → List ℕ

@@ -1,8 +1,11 @@
 // Layer 4: the replay, and what it writes: change lines, the record, or the explanation of a row.
+mod configuration;
 mod output;
 mod progress;
+pub mod refusals;
 mod replay;
 
+pub use configuration::Configuration;
 pub use output::END_ROOM;
 pub use output::EXPLAIN_SPREAD;
 pub use output::Form;

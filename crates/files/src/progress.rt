@@ -1,14 +1,17 @@
-// The replay, line by line: the settings line, then the rows.
+// The replay, line by line: the settings line, after which the configuration is looked at, then the rows.
 ghost use mathlib.Core.Path.{_≡_};
 ghost use mathlib.Core.List.{List};
 ghost use Prim.Native.Nat.{ℕ, _+_, _*_, _≤_};
 ghost use lib.ListN.{length};
 ghost use Rattle.rows.specs.SettingsLine.{settingsLineAnswer};
 ghost use Rattle.files.specs.Output.{noteRoom, spread, endRoom};
-ghost use Rattle.files.specs.Progress.{freshProgress, stopped, refuse, opened, endRefusal, endOf};
+ghost use Rattle.files.specs.Progress.{freshProgress, stopped, refuse, opened, stageRefusal, endRefusal, endOf};
 ghost use Rattle.files.specs.Progress.{afterTick, wroteTick, afterRow, wroteRow, afterLine, wroteLine};
 ghost use Rattle.files.specs.device.Calls.{Notable, LineNoted};
 ghost use Rattle.text.specs.device.Calls.{WroteWithin};
+use crate::configuration::Configuration;
+use crate::configuration::after_settings;
+use crate::configuration::last_refusal;
 use crate::output::Form;
 use crate::output::note_row;
 use crate::output::put_end;
@@ -29,8 +32,9 @@ pub enum Stage {
     Stopped(u32),
 }
 
-// The stage, the settings, the relay's state, the rows done, and the output byte of the last.
+// The configuration, the stage, the settings, the relay's state, the rows done, and the output byte of the last.
 pub struct Progress {
+    pub configuration: Configuration,
     pub stage: Stage,
     pub settings: Settings,
     pub relay: RelayState,
@@ -45,8 +49,8 @@ pub struct Noted {
 }
 
 impl Progress {
-    pub fn fresh() -> Self
-        ensures { λ r. ⌜ r ≡ freshProgress ⌝ }
+    pub fn fresh(configuration: Configuration) -> Self
+        ensures { λ r. ⌜ r ≡ freshProgress configuration ⌝ }
     {
         let settings = Settings {
             operation: 0,
@@ -59,6 +63,7 @@ impl Progress {
         };
         let relay = RelayState::clear();
         Progress {
+            configuration,
             stage: Stage::Opening,
             settings,
             relay,
@@ -71,9 +76,11 @@ impl Progress {
 fn stop(p: Progress, refusal: u32) -> Progress
     ensures { λ r. ⌜ r ≡ stopped refusal p ⌝ }
 {
+    let configuration = p.configuration;
     let settings = p.settings;
     let relay = p.relay;
     Progress {
+        configuration,
         stage: Stage::Stopped(refusal),
         settings,
         relay,
@@ -100,9 +107,12 @@ fn on_settings_line(p: Progress, line: &[u8]) -> Progress
     let answer = read_settings_line(line);
     match answer {
         SettingsRead::Accepted(settings) => {
+            let configuration = p.configuration;
+            let stage = after_settings(configuration);
             let relay = p.relay;
             Progress {
-                stage: Stage::Running,
+                configuration,
+                stage,
                 settings,
                 relay,
                 done: p.done,
@@ -127,9 +137,11 @@ fn on_tick(form: Form, p: Progress, x: Row, t: RelayTicked, out: &mut [u8], at: 
     }
     let end = note_row(form, out, at, p, x, t);
     let done = p.done + 1;
+    let configuration = p.configuration;
     let settings = p.settings;
     let relay = t.state;
     let progress = Progress {
+        configuration,
         stage: Stage::Running,
         settings,
         relay,
@@ -189,9 +201,9 @@ pub(crate) fn on_line(form: Form, p: Progress, line: &[u8], out: &mut [u8], at: 
     }
 }
 
-// The refusal number of the end line: where no settings line came, its shape is wrong.
-pub(crate) fn end_refusal(stage: Stage) -> u32
-    ensures { λ r. ⌜ r ≡ endRefusal stage ⌝ }
+// The refusal number by the lines alone: where no settings line came, its shape is wrong.
+fn stage_refusal(stage: Stage) -> u32
+    ensures { λ r. ⌜ r ≡ stageRefusal stage ⌝ }
 {
     match stage {
         Stage::Opening => WRONG_SHAPE,
@@ -200,12 +212,21 @@ pub(crate) fn end_refusal(stage: Stage) -> u32
     }
 }
 
+// The refusal number of the end line.
+pub(crate) fn end_refusal(p: Progress) -> u32
+    ensures { λ r. ⌜ r ≡ endRefusal p ⌝ }
+{
+    let configuration = p.configuration;
+    let stage = p.stage;
+    let refusal = stage_refusal(stage);
+    last_refusal(configuration, p.done, refusal)
+}
+
 // The end line, at the front of the output; answers how long it is.
 pub(crate) fn on_end(p: Progress, out: &mut [u8]) -> usize
     requires { ⌜ endRoom ≤ length (now out) ⌝ }
     ensures { λ r. ⌜ WroteWithin endRoom (now (out .entry)) (now (out .exit)) 0 r (endOf p) ⌝ }
 {
-    let stage = p.stage;
-    let refusal = end_refusal(stage);
+    let refusal = end_refusal(p);
     put_end(out, p.done, refusal)
 }

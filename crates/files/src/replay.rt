@@ -9,6 +9,7 @@ ghost use Rattle.files.specs.Replay.{lastProgress, refusalAtEnd, finishW
 ghost use Rattle.files.specs.Output.{spread};
 ghost use Rattle.files.specs.Progress.{afterLine, wroteLine};
 ghost use Rattle.files.specs.device.Calls.{LineNoted, takenWith, PortionFed};
+use crate::configuration::Configuration;
 use crate::output::END_ROOM;
 use crate::output::EXPLAIN_SPREAD;
 use crate::output::Form;
@@ -45,10 +46,10 @@ pub struct Fed {
 }
 
 impl Replay {
-    pub fn fresh(form: Form) -> Self
-        ensures { λ r. ⌜ r ≡ freshReplay form ⌝ }
+    pub fn fresh(form: Form, configuration: Configuration) -> Self
+        ensures { λ r. ⌜ r ≡ freshReplay form configuration ⌝ }
     {
-        let progress = Progress::fresh();
+        let progress = Progress::fresh(configuration);
         let cutter = Cutter::empty();
         Replay {
             form,
@@ -181,8 +182,7 @@ pub fn refusal_at_end(state: Replay) -> u32
     ensures { λ r. ⌜ r ≡ refusalAtEnd state ⌝ }
 {
     let last = last_progress(state);
-    let stage = last.stage;
-    end_refusal(stage)
+    end_refusal(last)
 }
 
 // Ends the input: writes the end line at the front of `out` and answers its length. Where `out` has less than END_ROOM

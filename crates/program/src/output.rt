@@ -48,7 +48,7 @@ pub fn write_out(bytes: &[u8]) -> usize
 {
     let put = write_all(STDOUT_FILENO, bytes);
     if put < bytes.len() {
-        say_failure(b"writing standard output");
+        say_failure(b"writing ", b"standard output");
     }
     put
 }

@@ -1,5 +1,6 @@
 // The program `record`: a settings line and data rows on standard input, a row of the relay's record for each row done on
 // standard output; where the input was refused or a call of the system failed, one line on standard error.
+use files::Configuration;
 use files::Form;
 use files::LONGEST_LINE;
 use files::RECORD_SPREAD;
@@ -11,7 +12,7 @@ const ROOM: usize = RECORD_SPREAD * (LONGEST_LINE + PORTION);
 fn main() {
     let mut portion = [0u8; PORTION];
     let mut rows = [0u8; ROOM];
-    let end = runs::run(Form::Record, &mut portion, &mut rows);
+    let end = runs::run(Form::Record, Configuration::Absent, &mut portion, &mut rows);
     if end.failed {
         return;
     }

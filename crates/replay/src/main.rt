@@ -1,5 +1,7 @@
-// The replay program: a settings line and data rows on standard input, changes and the end line on standard output; why a
-// recording was refused, on standard error.
+// The program `replay [--config FILE]`: a settings line and data rows on standard input, changes and the end line on standard
+// output; why a recording was refused, on standard error.
+mod arguments;
+
 use files::END_ROOM;
 use files::Form;
 use files::LONGEST_LINE;
@@ -9,9 +11,14 @@ use runs::PORTION;
 const ROOM: usize = LONGEST_LINE + PORTION;
 
 fn main() {
+    if !arguments::are_right() {
+        program::say(b"failed: replay takes no argument, or --config and a file's name\n");
+        return;
+    }
     let mut portion = [0u8; PORTION];
+    let configuration = arguments::asked_configuration(&mut portion);
     let mut changes = [0u8; ROOM];
-    let end = runs::run(Form::Changes, &mut portion, &mut changes);
+    let end = runs::run(Form::Changes, configuration, &mut portion, &mut changes);
     if end.failed {
         return;
     }

@@ -1,5 +1,6 @@
 // A state that no replay reaches: rows are due, and no settings were accepted.
 use crate::line::say;
+use files::Configuration;
 use files::END_ROOM;
 use files::Form;
 use files::Progress;
@@ -7,11 +8,13 @@ use files::Replay;
 use files::Stage;
 
 fn without_settings() -> Replay {
-    let fresh = Replay::fresh(Form::Changes);
+    let fresh = Replay::fresh(Form::Changes, Configuration::Absent);
     let p = fresh.progress;
+    let configuration = p.configuration;
     let settings = p.settings;
     let relay = p.relay;
     let progress = Progress {
+        configuration,
         stage: Stage::Running,
         settings,
         relay,

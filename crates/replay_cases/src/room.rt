@@ -1,6 +1,7 @@
 // The library's calls with just enough room for what they may write, and with too little.
 use crate::line::say;
 use crate::line::say_count;
+use files::Configuration;
 use files::END_ROOM;
 use files::Form;
 use files::LONGEST_LINE;
@@ -17,7 +18,7 @@ fn say_taken(taken: bool) {
 // Feeds five bytes to a state that holds `held` bytes.
 fn feed(name: &[u8], form: Form, held: usize, out: &mut [u8]) {
     say(name);
-    let mut state = Replay::fresh(form);
+    let mut state = Replay::fresh(form, Configuration::Absent);
     state.cutter.count = held;
     let t = files::feed(state, b"1,200", out);
     say_taken(t.taken);
@@ -25,7 +26,7 @@ fn feed(name: &[u8], form: Form, held: usize, out: &mut [u8]) {
 
 fn end(name: &[u8], out: &mut [u8]) {
     say(name);
-    say_count(files::finish(Replay::fresh(Form::Changes), out));
+    say_count(files::finish(Replay::fresh(Form::Changes, Configuration::Absent), out));
     say(b" bytes written\n");
 }
 

@@ -1,6 +1,7 @@
 // A replay in memory: of an input whole, cut at a place, and in small pieces.
 use crate::line::say;
 use crate::line::say_count;
+use files::Configuration;
 use files::Form;
 use files::Replay;
 ghost use Prim.Native.Nat.{_≤_, _<_};
@@ -31,7 +32,7 @@ fn replay(input: &[u8], cut: usize, step: usize, out: &mut [u8]) -> usize
     requires { ⌜ length (now out) ≤ 1024 ⌝ }
     ensures { λ r. ⌜ r ≤ length (now (out .exit)) ⌝ }
 {
-    let mut state = Replay::fresh(Form::Changes);
+    let mut state = Replay::fresh(Form::Changes, Configuration::Absent);
     let mut i = 0;
     let mut at = 0;
     while i < input.len() {

@@ -1,4 +1,5 @@
 // The replay of standard input, portion by portion.
+use files::Configuration;
 use files::Fed;
 use files::Form;
 use files::Replay;
@@ -64,11 +65,11 @@ fn one_turn(state: Replay, portion: &mut [u8], out: &mut [u8]) -> Turn
 // To the end of the input, to a refusal, or to the row that was asked for: what follows would write nothing. Of the input no
 // contract can say more than that it came in some portions. The program lends the memory, since a form decides how much a
 // portion may write, and to make it anew at each turn is dear.
-pub fn run(form: Form, portion: &mut [u8], out: &mut [u8]) -> Ended
+pub fn run(form: Form, configuration: Configuration, portion: &mut [u8], out: &mut [u8]) -> Ended
     requires { ⌜ portionRoom form longestLine (length (now portion)) ≤ length (now out) ⌝ }
-    ensures { λ r. ⌜ Reached (freshReplay form) (r .state) ⌝ }
+    ensures { λ r. ⌜ Reached (freshReplay form configuration) (r .state) ⌝ }
 {
-    let mut state = Replay::fresh(form);
+    let mut state = Replay::fresh(form, configuration);
     // A function must be seen to end. No input has so many portions.
     let mut portions = u64::MAX;
     while portions > 0 {

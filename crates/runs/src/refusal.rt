@@ -2,9 +2,12 @@
 ghost use mathlib.Core.Path.{_≡_};
 ghost use Rattle.files.specs.Replay.{refusalAtEnd};
 use crate::words::say_refusal;
+use config::ConfigRead;
+use files::Configuration;
 use files::END_ROOM;
 use files::Form;
 use files::Replay;
+use files::refusals::WRONG_LAST_SAMPLE;
 use program::say;
 use program::say_number;
 
@@ -26,15 +29,43 @@ fn say_end_of_record(state: Replay) {
     }
 }
 
-// The line that was refused: the settings that a replay holds pass their check once a settings line was accepted.
-fn say_place(state: Replay) {
+// The number of a configuration's refused line, 0 where none was refused.
+fn refused_line(configuration: Configuration) -> u32 {
+    match configuration {
+        Configuration::Absent => 0,
+        Configuration::Given(answer) => match answer {
+            ConfigRead::Accepted(_) => 0,
+            ConfigRead::Refused(fault) => fault.line,
+        },
+    }
+}
+
+// After the settings line: a line of the configuration, or the row after those done.
+fn say_line(configuration: Configuration, done: u32) {
+    let line = refused_line(configuration);
+    if line != 0 {
+        say(b"line ");
+        say_number(line as u64);
+        say(b" of the configuration");
+        return;
+    }
+    say(b"row ");
+    say_number(done as u64 + 1);
+}
+
+// What was refused: the settings that a replay holds pass their check once a settings line was accepted.
+fn say_place(state: Replay, refusal: u32) {
     let progress = state.progress;
     if progress.settings.check() != 0 {
         say(b"the settings line");
         return;
     }
-    say(b"row ");
-    say_number(progress.done as u64 + 1);
+    if refusal == WRONG_LAST_SAMPLE {
+        say(b"the recording");
+        return;
+    }
+    let configuration = progress.configuration;
+    say_line(configuration, progress.done);
 }
 
 // Says nothing where nothing was refused. Answers the refusal's number, which is all that a contract can say of it.
@@ -46,7 +77,7 @@ pub fn tell(state: Replay) -> u32
         return refusal;
     }
     say_end_of_record(state);
-    say_place(state);
+    say_place(state, refusal);
     say(b" is refused with ");
     say_number(refusal as u64);
     say(b": ");

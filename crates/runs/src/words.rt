@@ -14,13 +14,39 @@ fn say_setting(refusal: u32) -> usize {
     }
 }
 
-// In the words of document 01's table.
+// The lines of a configuration, 18 to 26.
+fn say_part(refusal: u32) -> usize {
+    match refusal {
+        18 => say(b"the station"),
+        19 => say(b"the number of channels"),
+        20 => say(b"the analogue channel"),
+        21 => say(b"the status channel"),
+        22 => say(b"the frequency"),
+        23 => say(b"the number of rates"),
+        24 => say(b"the rate or the last sample number"),
+        25 => say(b"the date"),
+        _ => say(b"the file type"),
+    }
+}
+
+// The configuration's numbers, 18 to 27.
+fn say_configuration(refusal: u32) -> usize {
+    if refusal == 27 {
+        return say(b"the multiplier is missing or malformed, or bytes follow it");
+    }
+    say_part(refusal);
+    say(b" is missing, malformed or not one that we take")
+}
+
+// In the words of document 01's table, and of E4.
 pub(crate) fn say_refusal(refusal: u32) -> usize {
     match refusal {
         1..=7 => say_setting(refusal),
         12 => say(b"the line has the wrong shape"),
         13 => say(b"the row number isn't one more than the last (the first is 1)"),
         14 => say(b"the block field isn't 0 or 1"),
+        18..=27 => say_configuration(refusal),
+        28 => say(b"the configuration's last sample number isn't the rows done"),
         _ => say(b"the number has no words"),
     }
 }

@@ -1,20 +1,20 @@
--- The digits that a text begins with, one at a time.
+-- Digits: those that a text begins with, one at a time; and their value, as far as a cap.
 -- Assumes nothing.
-use mathlib.Core.Path.{_≡_, sym, ap, _∙_}
-use mathlib.Core.Bool.{true, false}
+use mathlib.Core.Path.{_≡_, refl, sym, ap, _∙_}
+use mathlib.Core.Bool.{Bool, true, false, cond, _&&_, and-false}
 use mathlib.Core.List.{List, [], _∷_}
-use Prim.Native.Nat.{ℕ, zero, suc, _+_, _-_, _*_, _^_, _≤_, _<_}
+use Prim.Native.Nat.{ℕ, zero, suc, _+_, _-_, _*_, _^_, _≤_, _<_, min}
 use native.Mathlib.Nat.{pow-suc, pow-le-pow-right}
 use native.Mathlib.Numerals.{add-one}
 use native.Mathlib.Omega.{arith}
-use lib.Dec.{eqb, lit<}
-use lib.ListN.{length, getD, drop}
+use lib.Dec.{eqb, leb, lit<}
+use lib.ListN.{length, getD, drop, drop-of-length-le}
 use lib.Seq.{drop-cons, drop-length}
-use borrow.Author.Tests.{ne-eqb}
-use Rattle.checks.proofs.Cases.{by-cond}
+use borrow.Author.Tests.{eq-eqb, ne-eqb, eqb-true, le-leb, lt-leb, leb-true}
+use Rattle.checks.proofs.Cases.{by-cond, same-test}
 use Rattle.checks.proofs.Tests.{in-range, is-in-range, below-range, above-range}
 use Rattle.text.specs.declared.number.Digits.{Digits}
-use Rattle.text.specs.Number.{isDigit, leading, valueFrom, valueOf, digitsFrom}
+use Rattle.text.specs.Number.{isDigit, allDigits, leading, valueFrom, valueOf, digitsFrom}
 
 -- ---- how many, and how large
 
@@ -111,3 +111,70 @@ digits-again w n v at s h k a b =
 
 pub digits-count : (d : Digits) (w : ℕ) (s : List ℕ) → d ≡ digitsFrom 0 0 (leading w s) → d .count ≡ length (leading w s)
 digits-count d w s e = let z : 0 + length (leading w s) ≡ length (leading w s) = omega arith in ap (λ (x : Digits). x .count) e ∙ z
+
+pub all-digits-nil : allDigits [] ≡ true
+unfolding allDigits
+all-digits-nil = refl
+
+pub all-digits-cons : (d : ℕ) (ds : List ℕ) → allDigits (d ∷ ds) ≡ isDigit d && allDigits ds
+unfolding allDigits
+all-digits-cons d ds = refl
+
+-- ---- the digits that a text begins with are all of it exactly where it has digits alone, and no more than those
+
+suc-eqb : (a b : ℕ) → eqb (suc a) (suc b) ≡ eqb a b
+suc-eqb a b =
+    same-test (eqb (suc a) (suc b)) (eqb a b)
+    (λ t. eq-eqb a b (omega (arith, eqb-true (suc a) (suc b) t))) (λ t. eq-eqb (suc a) (suc b) (omega (arith, eqb-true a b t)))
+
+suc-leb : (a b : ℕ) → leb (suc a) (suc b) ≡ leb a b
+suc-leb a b =
+    same-test (leb (suc a) (suc b)) (leb a b)
+    (λ t. le-leb a b (omega (arith, leb-true (suc a) (suc b) t))) (λ t. le-leb (suc a) (suc b) (omega (arith, leb-true a b t)))
+
+pub all-leading : (w : ℕ) (s : List ℕ) → eqb (length (leading w s)) (length s) ≡ allDigits s && leb (length s) w
+unfolding leading allDigits
+all-leading zero [] = refl
+all-leading zero (b ∷ s) = rw (ne-eqb 0 (suc (length s)) (λ e. omega arith), lt-leb (suc (length s)) 0 (omega arith), and-false (isDigit b && allDigits s))
+all-leading (suc w) [] = sym (le-leb 0 (suc w) (omega arith))
+all-leading (suc w) (b ∷ s) = by-digit (isDigit b) (all-leading w s)
+  where
+    by-digit : (t : Bool) → eqb (length (leading w s)) (length s) ≡ allDigits s && leb (length s) w
+        → eqb (length (cond t (b ∷ leading w s) [])) (suc (length s)) ≡ (t && allDigits s) && leb (suc (length s)) (suc w)
+    by-digit true h = rw (suc-eqb (length (leading w s)) (length s), suc-leb (length s) w) h
+    by-digit false h = ne-eqb 0 (suc (length s)) (λ e. omega arith)
+
+pub leading-all : (w : ℕ) (s : List ℕ) → length (leading w s) ≡ length s → leading w s ≡ s
+unfolding leading
+leading-all zero [] e = refl
+leading-all zero (b ∷ s) e = absurd (omega arith)
+leading-all (suc w) [] e = refl
+leading-all (suc w) (b ∷ s) e = by-digit (isDigit b) e (leading-all w s)
+  where
+    by-digit : (t : Bool) → length (cond t (b ∷ leading w s) []) ≡ suc (length s) → (length (leading w s) ≡ length s → leading w s ≡ s)
+        → cond t (b ∷ leading w s) [] ≡ b ∷ s
+    by-digit true h more = ap (λ (l : List ℕ). b ∷ l) (more (omega (arith, h)))
+    by-digit false h more = absurd (omega (arith, h))
+
+-- ---- the value of digits, as far as a cap
+
+capped : (cap v : ℕ) (ds : List ℕ) → min (valueFrom v ds) cap ≡ min (valueFrom (min v cap) ds) cap
+unfolding valueFrom
+capped cap v [] = omega arith
+capped cap v (d ∷ ds) =
+    let same : min (v * 10 + (d - 48)) cap ≡ min (min v cap * 10 + (d - 48)) cap = omega arith in
+    capped cap (v * 10 + (d - 48)) ds ∙ ap (λ (x : ℕ). min (valueFrom x ds) cap) same ∙ sym (capped cap (min v cap * 10 + (d - 48)) ds)
+
+module _ (cap : ℕ) (s : List ℕ) (i v : ℕ) where
+  pub capped-end : length s ≤ i → v ≤ cap → min (valueFrom v (drop i s)) cap ≡ v
+  unfolding valueFrom
+  capped-end l h = rw (drop-of-length-le s l) (omega arith)
+
+  pub capped-on : i < length s → (w : ℕ) → w ≡ min (v * 10 + (getD s i 0 - 48)) cap
+      → min (valueFrom v (drop i s)) cap ≡ min (valueFrom w (drop (i + 1) s)) cap
+  unfolding valueFrom
+  capped-on k w e = rw (drop-cons s i 0 k, add-one i, e) (capped cap (v * 10 + (getD s i 0 - 48)) (drop (suc i) s))
+
+pub value-nothing : valueOf [] ≡ 0
+unfolding valueFrom
+value-nothing = refl

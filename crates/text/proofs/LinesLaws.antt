@@ -10,15 +10,13 @@ use lib.Dec.{eqb, lit<}
 use lib.ListN.{length, take, length-append}
 use lib.Seq.{take-append-seam}
 use borrow.Author.Tests.{ne-eqb}
-use Rattle.text.specs.Number.{isDigit, allDigits}
-use Rattle.text.specs.Line.{cr, lf, comma, isLf, endsCrLf, body, crLf, fieldsIn, fitsIn, rightShape, spelled}
+use Rattle.text.specs.Line.{cr, lf, isLf, endsCrLf, body, crLf, fieldsIn, rightShape, spelled, written}
 use Rattle.text.specs.declared.lines.Closer.{Closer}
 use Rattle.text.specs.declared.lines.Closer.the-variants.{CrLf}
 use Rattle.text.specs.Lines.{closedBy, lastLine, linesFrom, linesOf, joined}
 use Rattle.checks.proofs.Cases.{by-cond, not-both}
-use Rattle.checks.proofs.Tests.{both-true}
-use Rattle.text.proofs.DigitLaws.{digit-is-not}
-use Rattle.text.proofs.ShapeLaws.{crlf-ends, right-fits, right-written, fit-digits, fit-rest, fit-none}
+use Rattle.text.proofs.LackLaws.{lacks, first-lacks, rest-lacks, spelled-lacks, Each}
+use Rattle.text.proofs.ShapeLaws.{crlf-ends, right-fits, right-written, fits-lack}
 
 -- ---- put together they are the input
 
@@ -161,41 +159,6 @@ open-input s h = open-from [] s h
 
 -- ---- a line of right shape at the front is the first line
 
--- no LF stands in a text
-unfoldable noLf : List ℕ → Bool
-noLf [] = true
-noLf (b ∷ s) = cond (eqb b lf) false (noLf s)
-
-no-lf-join : (s t : List ℕ) → noLf s ≡ true → noLf t ≡ true → noLf (s ++ t) ≡ true
-unfolding noLf
-no-lf-join [] t h k = k
-no-lf-join (b ∷ s) t h k = by-cond (λ (x : Bool). (x ≡ true → cond (eqb b lf) false (noLf (s ++ t)) ≡ true)) (eqb b lf) false (noLf s)
-    (λ e f. absurd (not-both false f refl))
-    (λ e f. rw e (no-lf-join s t f k)) h
-
-digits-no-lf : (f : List ℕ) → allDigits f ≡ true → noLf f ≡ true
-unfolding allDigits noLf
-digits-no-lf [] h = refl
-digits-no-lf (d ∷ f) h = rw (digit-is-not lf d (lit< tt) (both-true (isDigit d) (allDigits f) h .0)) (digits-no-lf f (both-true (isDigit d) (allDigits f) h .1))
-
-comma-no-lf : (s : List ℕ) → noLf s ≡ true → noLf (comma ∷ s) ≡ true
-unfolding noLf
-comma-no-lf s h = h
-
-nothing-no-lf : noLf [] ≡ true
-unfolding noLf
-nothing-no-lf = refl
-
-spelled-no-lf : (ws : List ℕ) (fs : List (List ℕ)) → fitsIn ws fs ≡ true → noLf (spelled fs) ≡ true
-unfolding spelled
-spelled-no-lf [] [] h = nothing-no-lf
-spelled-no-lf [] (f ∷ fs) h = absurd (fit-none f fs h)
-spelled-no-lf (w ∷ ws) [] h = nothing-no-lf
-spelled-no-lf (w ∷ ws) (f ∷ []) h = digits-no-lf f (fit-digits w ws f [] h)
-spelled-no-lf (w ∷ ws) (f ∷ g ∷ gs) h =
-    no-lf-join f (comma ∷ spelled (g ∷ gs)) (digits-no-lf f (fit-digits w ws f (g ∷ gs) h))
-    (comma-no-lf (spelled (g ∷ gs)) (spelled-no-lf ws (g ∷ gs) (fit-rest w ws f (g ∷ gs) h)))
-
 -- only LF closes a line
 ends-other : (l : List ℕ) (b : ℕ) → eqb b lf ≡ false → endsCrLf (l ++ (b ∷ [])) ≡ false
 unfolding endsCrLf isLf
@@ -206,21 +169,23 @@ ends-other (a ∷ d ∷ l) b h =
     or-none (eqb a cr && (eqb (suc (length (l ++ (b ∷ [])))) 1 && eqb d lf)) (endsCrLf (d ∷ (l ++ (b ∷ []))))
     (rw (ne-eqb (suc (length (l ++ (b ∷ [])))) 1 (λ e. omega arith), and-false (eqb a cr))) (ends-other (d ∷ l) b h)
 
-first-from : (l t s : List ℕ) → noLf t ≡ true → linesFrom CrLf l (t ++ cr ∷ lf ∷ s) ≡ (l ++ (t ++ crLf)) ∷ linesFrom CrLf [] s
-unfolding linesFrom noLf
+first-from : (l t s : List ℕ) → lacks lf t ≡ true → linesFrom CrLf l (t ++ cr ∷ lf ∷ s) ≡ (l ++ (t ++ crLf)) ∷ linesFrom CrLf [] s
+unfolding linesFrom
 first-from l [] s h =
     let e : (l ++ (cr ∷ [])) ++ (lf ∷ []) ≡ l ++ crLf = append-assoc l (cr ∷ []) (lf ∷ []) in
     rw (ends-other l cr refl, e, crlf-ends l)
 first-from l (b ∷ t) s h =
-    by-cond (λ (x : Bool). (x ≡ true → linesFrom CrLf l (b ∷ (t ++ cr ∷ lf ∷ s)) ≡ (l ++ b ∷ (t ++ crLf)) ∷ linesFrom CrLf [] s)) (eqb b lf) false (noLf t)
-    (λ e f. absurd (not-both false f refl))
-    (λ e f. rw (ends-other l b e) (first-from (l ++ (b ∷ [])) t s f ∙ ap (λ (k : List ℕ). k ∷ linesFrom CrLf [] s) (append-assoc l (b ∷ []) (t ++ crLf)))) h
+    rw (ends-other l b (first-lacks lf b t h))
+    (first-from (l ++ (b ∷ [])) t s (rest-lacks lf b t h) ∙ ap (λ (k : List ℕ). k ∷ linesFrom CrLf [] s) (append-assoc l (b ∷ []) (t ++ crLf)))
+
+-- no LF stands in a line before its CR LF
+pub written-first : (fs : List (List ℕ)) (s : List ℕ) → Each (λ (f : List ℕ). lacks lf f ≡ true) fs → linesOf CrLf (written fs ++ s) ≡ written fs ∷ linesOf CrLf s
+written-first fs s h =
+    ap (linesOf CrLf) (append-assoc (spelled fs) crLf s) ∙ first-from [] (spelled fs) s (spelled-lacks lf refl fs h)
 
 pub line-first : (ws l s : List ℕ) → rightShape ws l ≡ true → linesOf CrLf (l ++ s) ≡ l ∷ linesOf CrLf s
 line-first ws l s h =
-    let fs : List (List ℕ) = fieldsIn (body l) in
     let q = right-written ws l h in
     ap (λ (k : List ℕ). linesOf CrLf (k ++ s)) q
-    ∙ ap (linesOf CrLf) (append-assoc (spelled (fieldsIn (body l))) crLf s)
-    ∙ first-from [] (spelled (fieldsIn (body l))) s (spelled-no-lf ws (fieldsIn (body l)) (right-fits ws l h))
+    ∙ written-first (fieldsIn (body l)) s (fits-lack lf (lit< tt) ws (fieldsIn (body l)) (right-fits ws l h))
     ∙ ap (λ (k : List ℕ). k ∷ linesOf CrLf s) (sym q)

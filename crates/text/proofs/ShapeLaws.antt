@@ -1,7 +1,7 @@
 -- A line is of right shape exactly when it is put together from fields that fit, and exactly when the scan comes to its end.
 -- Assumes nothing.
 use mathlib.Core.Path.{_≡_, refl, sym, ap, _∙_}
-use mathlib.Core.Bool.{Bool, true, false, _&&_, _||_, or-false, and-false}
+use mathlib.Core.Bool.{Bool, true, false, cond, _&&_, _||_, or-false, and-false}
 use mathlib.Core.List.{List, [], _∷_, _++_, append-assoc}
 use Prim.Native.Nat.{ℕ, zero, suc, _+_, _-_, _*_, _^_, _≤_, _<_}
 use native.Mathlib.Numerals.{add-one}
@@ -15,7 +15,8 @@ use Rattle.text.specs.Number.{isDigit, allDigits, leading, decimal}
 use Rattle.text.specs.Line.{cr, lf, comma, isLf, endsCrLf, body, crLf, intoFirst, fieldsIn, fitsIn, rightShape, valuesOf, numbersOf, spelled, written}
 use Rattle.checks.proofs.Cases.{by-cond, not-both, same-test}
 use Rattle.checks.proofs.Tests.{both-true}
-use Rattle.text.proofs.DigitLaws.{digit-is-not, leading-length}
+use Rattle.text.proofs.DigitLaws.{leading-length}
+use Rattle.text.proofs.LackLaws.{lacks, first-lacks, rest-lacks, digits-lack, Each}
 use Rattle.text.proofs.DecimalLaws.{leading-back, decimal-digits, decimal-some, decimal-short}
 use Rattle.text.proofs.ScanLaws.{fieldCloser, scans, scanned, total, field-some, field-closed, field-rest, scan-least, scan-most, scan-lf, numbers-small}
 
@@ -52,7 +53,7 @@ or-cases : {P : Type 0} (a b : Bool) → (a ≡ true → P) → (b ≡ true → 
 or-cases true b f g h = f refl
 or-cases false b f g h = g h
 
-ends-long : (s : List ℕ) → endsCrLf s ≡ true → 2 ≤ length s
+pub ends-long : (s : List ℕ) → endsCrLf s ≡ true → 2 ≤ length s
 unfolding endsCrLf
 ends-long [] h = absurd (not-both false h refl)
 ends-long (a ∷ s) h =
@@ -132,20 +133,34 @@ module _ (ws s : List ℕ) (h : rightShape ws s ≡ true) where
 
 -- ---- what is put together from fields that fit is of right shape, and its numbers come back
 
-fields-one : (f : List ℕ) → allDigits f ≡ true → fieldsIn f ≡ f ∷ []
-unfolding allDigits fieldsIn
-fields-one [] h = refl
-fields-one (d ∷ f) h =
-    rw (digit-is-not comma d (lit< tt) (both-true (isDigit d) (allDigits f) h .0), fields-one f (both-true (isDigit d) (allDigits f) h .1))
+pub fields-nil : fieldsIn [] ≡ [] ∷ []
+unfolding fieldsIn
+fields-nil = refl
 
-fields-more : (f s : List ℕ) → allDigits f ≡ true → fieldsIn (f ++ comma ∷ s) ≡ f ∷ fieldsIn s
-unfolding allDigits fieldsIn
+pub fields-cons : (b : ℕ) (s : List ℕ) → fieldsIn (b ∷ s) ≡ cond (eqb b comma) ([] ∷ fieldsIn s) (intoFirst b (fieldsIn s))
+unfolding fieldsIn
+fields-cons b s = refl
+
+fields-one : (f : List ℕ) → lacks comma f ≡ true → fieldsIn f ≡ f ∷ []
+unfolding fieldsIn
+fields-one [] h = refl
+fields-one (b ∷ f) h = rw (first-lacks comma b f h, fields-one f (rest-lacks comma b f h))
+
+fields-more : (f s : List ℕ) → lacks comma f ≡ true → fieldsIn (f ++ comma ∷ s) ≡ f ∷ fieldsIn s
+unfolding fieldsIn
 fields-more [] s h = refl
-fields-more (d ∷ f) s h =
-    rw (digit-is-not comma d (lit< tt) (both-true (isDigit d) (allDigits f) h .0), fields-more f s (both-true (isDigit d) (allDigits f) h .1))
+fields-more (b ∷ f) s h = rw (first-lacks comma b f h, fields-more f s (rest-lacks comma b f h))
+
+-- at least one: no fields at all would come back as one empty field
+pub fields-spelled : (fs : List (List ℕ)) → 1 ≤ length fs → Each (λ (f : List ℕ). lacks comma f ≡ true) fs → fieldsIn (spelled fs) ≡ fs
+unfolding spelled
+fields-spelled [] some h = absurd (omega arith)
+fields-spelled (f ∷ []) some (here, others) = fields-one f here
+fields-spelled (f ∷ g ∷ gs) some (here, others) =
+    fields-more f (spelled (g ∷ gs)) here ∙ ap (λ (ks : List (List ℕ)). f ∷ ks) (fields-spelled (g ∷ gs) (omega arith) others)
 
 module _ (w : ℕ) (ws f : List ℕ) (fs : List (List ℕ)) (h : fitsIn (w ∷ ws) (f ∷ fs) ≡ true) where
-  pub fit-digits : allDigits f ≡ true
+  fit-digits : allDigits f ≡ true
   unfolding fitsIn
   fit-digits = both-true (allDigits f) _ h .0
 
@@ -157,30 +172,32 @@ module _ (w : ℕ) (ws f : List ℕ) (fs : List (List ℕ)) (h : fitsIn (w ∷ w
   unfolding fitsIn
   fit-width = leb-true (length f) w (both-true (leb (length f) w) _ (both-true (leb 1 (length f)) _ (both-true (allDigits f) _ h .1) .1) .0)
 
-  pub fit-rest : fitsIn ws fs ≡ true
+  fit-rest : fitsIn ws fs ≡ true
   unfolding fitsIn
   fit-rest = both-true (leb (length f) w) _ (both-true (leb 1 (length f)) _ (both-true (allDigits f) _ h .1) .1) .1
 
-pub fit-none : (f : List ℕ) (fs : List (List ℕ)) → fitsIn [] (f ∷ fs) ≡ true → ⊥
+fit-none : (f : List ℕ) (fs : List (List ℕ)) → fitsIn [] (f ∷ fs) ≡ true → ⊥
 unfolding fitsIn
 fit-none f fs h = not-both false h refl
 
-pub fit-lacks : (w : ℕ) (ws : List ℕ) → fitsIn (w ∷ ws) [] ≡ true → ⊥
+fit-lacks : (w : ℕ) (ws : List ℕ) → fitsIn (w ∷ ws) [] ≡ true → ⊥
 unfolding fitsIn
 fit-lacks w ws h = not-both false h refl
 
-fields-spelled : (w : ℕ) (ws : List ℕ) (fs : List (List ℕ)) → fitsIn (w ∷ ws) fs ≡ true → fieldsIn (spelled fs) ≡ fs
-unfolding spelled
-fields-spelled w ws [] h = absurd (fit-lacks w ws h)
-fields-spelled w ws (f ∷ []) h = fields-one f (fit-digits w ws f [] h)
-fields-spelled w [] (f ∷ g ∷ gs) h = absurd (fit-none g gs (fit-rest w [] f (g ∷ gs) h))
-fields-spelled w (v ∷ vs) (f ∷ g ∷ gs) h =
-    fields-more f (spelled (g ∷ gs)) (fit-digits w (v ∷ vs) f (g ∷ gs) h)
-    ∙ ap (λ (ks : List (List ℕ)). f ∷ ks) (fields-spelled v vs (g ∷ gs) (fit-rest w (v ∷ vs) f (g ∷ gs) h))
+-- fields that fit lack every byte that stands before the digits
+pub fits-lack : (b : ℕ) → b < 48 → (ws : List ℕ) (fs : List (List ℕ)) → fitsIn ws fs ≡ true → Each (λ (f : List ℕ). lacks b f ≡ true) fs
+fits-lack b low ws [] h = tt
+fits-lack b low [] (f ∷ fs) h = absurd (fit-none f fs h)
+fits-lack b low (w ∷ ws) (f ∷ fs) h =
+    (digits-lack b low f (fit-digits w ws f fs h), fits-lack b low ws fs (fit-rest w ws f fs h))
+
+fit-one : (w : ℕ) (ws : List ℕ) (fs : List (List ℕ)) → fitsIn (w ∷ ws) fs ≡ true → 1 ≤ length fs
+fit-one w ws [] h = absurd (fit-lacks w ws h)
+fit-one w ws (f ∷ fs) h = omega arith
 
 module _ (w : ℕ) (ws : List ℕ) (fs : List (List ℕ)) (h : fitsIn (w ∷ ws) fs ≡ true) where
   written-fields : fieldsIn (body (written fs)) ≡ fs
-  written-fields = rw (body-crlf (spelled fs)) (fields-spelled w ws fs h)
+  written-fields = rw (body-crlf (spelled fs)) (fields-spelled fs (fit-one w ws fs h) (fits-lack comma (lit< tt) (w ∷ ws) fs h))
 
   pub written-right : rightShape (w ∷ ws) (written fs) ≡ true
   unfolding rightShape

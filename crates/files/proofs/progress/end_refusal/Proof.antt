@@ -1,32 +1,21 @@
--- `files::progress::end_refusal` meets its contract: by the stage.
+-- `files::progress::end_refusal` meets its contract.
 -- Assumes nothing.
-use mathlib.Core.Path.{sym, ap}
-use Rattle.files.specs.Progress.{endRefusal}
+use mathlib.Core.Path.{ap, _∙_}
+use Rattle.files.specs.Configuration.{lastRefusal}
 use borrow.Author.Needs.{needs}
 use Rattle.files.proofs.progress.end_refusal.Statement.{statement}
 use Rattle.files.proofs.progress.end_refusal.Tie as tie
 
-enum-told : tie.Need-enum-told
-enum-told c = search needs
+stage-refusal-requires : tie.Need-stage-refusal-requires
+stage-refusal-requires c κs = search needs
 
-enum-told-2 : tie.Need-enum-told-2
-enum-told-2 c = search needs
-
-enum-known-stage : tie.Need-enum-known-stage
-enum-known-stage c = search needs
+last-refusal-requires : tie.Need-last-refusal-requires
+last-refusal-requires c κs = search needs
 
 returns : tie.Need-returns
-unfolding endRefusal
-returns c = ap endRefusal (sym (c .enum-told .given .1))
-
-returns-2 : tie.Need-returns-2
-unfolding endRefusal
-returns-2 c = ap endRefusal (sym (c .enum-told2 .given .1))
-
-returns-3 : tie.Need-returns-3
-unfolding endRefusal
-returns-3 c = ap endRefusal (sym (c .before .stage .given .1))
+returns c =
+    let a = c .before .before .args in
+    c .last-refusal .ensures ∙ ap (lastRefusal (a .p .configuration) (a .p .done)) (c .before .stage-refusal .ensures)
 
 pub end-refusal-spec : {M : Type 1} → statement M
-end-refusal-spec =
-    tie.close (tie.spec enum-told enum-told-2 enum-known-stage returns returns-2 returns-3)
+end-refusal-spec = tie.close (tie.spec stage-refusal-requires last-refusal-requires returns)

@@ -12,6 +12,9 @@ read-settings-line-requires c κs = search needs
 enum-known-answer : tie.Need-enum-known-answer
 enum-known-answer c = search needs
 
+after-settings-requires : tie.Need-after-settings-requires
+after-settings-requires c κs = search needs
+
 enum-known-answer-2 : tie.Need-enum-known-answer-2
 enum-known-answer-2 c = search needs
 
@@ -20,9 +23,9 @@ stop-requires c κs = search needs
 
 returns : tie.Need-returns
 returns c =
-    let a = c .before .before .before .before .before .before .args in
-    let (answer, number) = c .before .before .before .before .read-settings-line .ensures in
-    ap (opened (a .p)) (sym (c .before .before .answer .given .1) ∙ answer)
+    let a = c .before .before .before .before .before .before .before .args in
+    let (answer, number) = c .before .before .before .before .before .read-settings-line .ensures in
+    rw (c .before .after-settings .ensures) (ap (opened (a .p)) (sym (c .before .before .before .answer .given .1) ∙ answer))
 
 returns-2 : tie.Need-returns-2
 returns-2 c =
@@ -36,6 +39,7 @@ on-settings-line-spec =
     (tie.spec
     read-settings-line-requires
     enum-known-answer
+    after-settings-requires
     enum-known-answer-2
     stop-requires
     returns

@@ -2,7 +2,6 @@
 -- Assumes nothing.
 use mathlib.Core.Path.{ap, _∙_}
 use borrow.Author.Needs.{needs}
-use Rattle.files.specs.declared.progress.Progress.{Progress}
 use Rattle.files.specs.Progress.{endRefusal}
 use Rattle.files.proofs.replay.refusal_at_end.Statement.{statement}
 use Rattle.files.proofs.replay.refusal_at_end.Tie as tie
@@ -14,7 +13,7 @@ end-refusal-requires : tie.Need-end-refusal-requires
 end-refusal-requires c κs = search needs
 
 returns : tie.Need-returns
-returns c = c .end-refusal .ensures ∙ ap (λ (p : Progress). endRefusal (p .stage)) (c .before .last-progress .ensures)
+returns c = c .end-refusal .ensures ∙ ap endRefusal (c .before .last-progress .ensures)
 
 pub refusal-at-end-spec : {M : Type 1} → statement M
 refusal-at-end-spec = tie.close (tie.spec last-progress-requires end-refusal-requires returns)

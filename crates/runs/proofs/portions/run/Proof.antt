@@ -32,7 +32,7 @@ fresh-requires c κs = search needs
 
 loop-holds : tie.Need-loop-holds Inv-loop μ-loop
 loop-holds c = record {
-  sound = rw (c .fresh .ensures) (fresh-sound (c .before .before .before .args .form));
+  sound = rw (c .fresh .ensures) (fresh-sound (c .before .before .before .args .form) (c .before .before .before .args .configuration));
   reached = reached-here _;
   read = refl;
   room = refl;

@@ -1,16 +1,16 @@
--- `program::input::read_portion` meets its contract: what is lent keeps its length from try to try.
+-- `program::input::read_portion_of` meets its contract: what is lent keeps its length from try to try.
 -- Assumes nothing.
 use mathlib.Core.Path.{_≡_}
 use lib.ListN.{length}
 use borrow.Author.Needs.{needs}
-use Rattle.program.proofs.input.read_portion.Statement.{statement}
-use Rattle.program.proofs.input.read_portion.Tie as tie
+use Rattle.program.proofs.input.read_portion_of.Statement.{statement}
+use Rattle.program.proofs.input.read_portion_of.Tie as tie
 
 abbrev Inv-loop : tie.InvT-loop
-Inv-loop buf₀ tries₀ buf tries = length buf ≡ length buf₀
+Inv-loop fd name buf₀ tries₀ buf tries = length buf ≡ length buf₀
 
 abbrev μ-loop : tie.MeasureT-loop
-μ-loop buf₀ tries₀ buf tries = tries
+μ-loop fd name buf₀ tries₀ buf tries = tries
 
 loop-holds : tie.Need-loop-holds Inv-loop μ-loop
 loop-holds c = search needs
@@ -57,8 +57,8 @@ same-length-3 c = search needs
 returns-3 : tie.Need-returns-3 Inv-loop μ-loop
 returns-3 c = search needs
 
-pub read-portion-spec : {M : Type 1} → statement M
-read-portion-spec =
+pub read-portion-of-spec : {M : Type 1} → statement M
+read-portion-of-spec =
     tie.close
     (tie.spec
     Inv-loop

@@ -1,0 +1,4 @@
+pub mod LineLaws
+pub mod TakeLaws
+pub mod ConfigLaws
+pub mod WrittenLaws

@@ -1,0 +1,5 @@
+pub mod Refusals
+pub mod Shape
+pub mod Config
+pub mod Reader
+pub mod device

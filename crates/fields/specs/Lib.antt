@@ -1,0 +1,3 @@
+pub mod Marks
+pub mod Field
+pub mod device
