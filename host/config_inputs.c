@@ -423,7 +423,7 @@ static void other_bytes(int line, int field)
     }
 }
 
-/* A comma less: two fields are one, or the line's last is gone. */
+/* A field less, with its comma. */
 static void field_missing(int line, int field)
 {
     start_from(usual);
@@ -473,7 +473,7 @@ static void line_lengths(int line, int field)
             padded_line(line, field, length);
 }
 
-/* The longest fields of every kind together are longer than a line may be. */
+/* Long fields, each within its own width, together come to a line that is too long. */
 static void longest_fields(void)
 {
     static char name_of[65];
@@ -483,7 +483,8 @@ static void longest_fields(void)
         fields[2][1] = LETTERS;
         fields[2][2] = "L1";
         fields[2][4] = "abcdefghijklmnopqrstuvwxyz 12345";
-        fields[2][5] = "1." ZEROS ZEROS "00000";
+        fields[2][5] = "1." ZEROS ZEROS ZEROS;
+        fields[2][6] = "0." ZEROS ZEROS ZEROS;
         memcpy(name_of, LETTERS, left);
         name_of[left] = '\0';
         fields[2][3] = name_of;

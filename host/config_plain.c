@@ -1,7 +1,7 @@
 /*
  * Reads a recorder's configuration: the whole file lies in memory, a line is a
  * string, and what its fields must be is a word of letters. Words in quotes are
- * the documents'.
+ * those of docs/DECISIONS.md, 77 to 90.
  */
 #include "config_plain.h"
 
@@ -57,7 +57,7 @@ static const char *past_decimal(const char *at)
     return at != NULL && *at == '.' ? past_digits(at + 1) : at;
 }
 
-/* "such numbers with an optional exponent (`e` or `E`, optional sign, digits)" */
+/* "with an optional exponent (`e` or `E`, optional sign, digits)" */
 static bool is_number(const char *field)
 {
     const char *at = past_decimal(field);
@@ -141,7 +141,7 @@ static const char *without_spaces(const char *field)
     return field + strspn(field, " ");
 }
 
-/* "every field but a text field may begin with spaces (they do not count toward its width)" */
+/* "every field but a text field may begin with spaces (they do not count toward its width .." */
 static bool field_is(char letter, const char *field)
 {
     const char *at = without_spaces(field);

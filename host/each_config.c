@@ -8,6 +8,7 @@
  */
 #define _POSIX_C_SOURCE 200809L
 #include <dirent.h>
+#include <errno.h>
 #include <fcntl.h>
 #include <spawn.h>
 #include <stdio.h>
@@ -42,7 +43,8 @@ static int run(char **command, const char *input, const char *wrote, const char 
     posix_spawn_file_actions_addopen(&files, 0, input, O_RDONLY, 0);
     posix_spawn_file_actions_addopen(&files, 1, wrote, O_WRONLY | O_CREAT | O_TRUNC, 0666);
     posix_spawn_file_actions_addopen(&files, 2, said, O_WRONLY | O_CREAT | O_TRUNC, 0666);
-    if (posix_spawn(&child, command[0], &files, NULL, command, environ) != 0)
+    errno = posix_spawn(&child, command[0], &files, NULL, command, environ);
+    if (errno != 0)
         fail(command[0]);
     posix_spawn_file_actions_destroy(&files);
     if (waitpid(child, &status, 0) < 0)

@@ -54,3 +54,6 @@ recording("recorder.csv", "3,200,5,40,40,60,0", [(100, 9100, 9000, 8900, 0), (19
 configuration("recorder.cfg", ("1.0", "1.0", "1.0"), 320)
 # The same recorder with another range on L2: its numbers would have to be ten times as large.
 configuration("recorder_scaled.cfg", ("1.0", "10.0", "1.0"), 320)
+# The configuration of a recorder that lost power while it wrote: it ends in the last sample number.
+whole = (here / "recorder.cfg").read_bytes()
+(here / "recorder_cut.cfg").write_bytes(whole[:whole.index(b"1000,320") + len(b"1000,3")])

@@ -21,7 +21,9 @@ use Rattle.config.specs.declared.reader.Reading.{Reading}
 use Rattle.config.specs.declared.reader.Reader.{Reader}
 use Rattle.config.specs.declared.reader.ConfigRead.{ConfigRead}
 use Rattle.config.specs.Refusals.{multiplier}
-use Rattle.config.specs.Shape.{Shape, shapes, lineCount, longestLine, numbersOf, numbers, noShape, shapeAt, isRight}
+use Rattle.config.specs.Line.{longestLine, isRight}
+use Rattle.config.specs.device.Layout.{numbersOf, numbers}
+use Rattle.config.specs.Shape.{Shape, shapes, lineCount, noShape, shapeAt}
 use Rattle.config.specs.Config.{refusedAt, lastAfter, readFrom, configOf}
 use Rattle.config.specs.Reader.{isDue, isRightAt, numberDue, passed, refused, afterLineIf, afterLine, afterLines, malformed, malformedIf}
 use Rattle.config.specs.Reader.{lineLimit, freshReader, cutPortion, taken, takenIf, takeAnswer, takenAll, lastReading, endRefusal, answerOf, endAnswer}
@@ -29,6 +31,7 @@ use Rattle.checks.proofs.Cases.{by-cond}
 use Rattle.checks.proofs.Tests.{both-true, in-range, is-in-range, above-range}
 use Rattle.text.proofs.CutLaws.{lines-cons, lines-nil, last-nothing, last-line, joined-none, joined-more}
 use Rattle.text.proofs.CuttingLaws.{cut-lines, all-read, long-held}
+use Rattle.config.proofs.LineLaws.{number-of-shape}
 use Rattle.text.proofs.KeptLaws.{empty-holds, line-kept, still-holds}
 
 -- ---- no line has the number 0
@@ -45,8 +48,10 @@ some-at (x ∷ xs) e (suc n) h = some-at xs (both-true (ltb 0 x) (noneZero xs) e
 number-some : (line : ℕ) → 0 < numberDue line
 unfolding numbersOf
 number-some line =
-    by-cond (λ (n : ℕ). 0 < n) (isDue line) (getD numbers (line - 1) 0) multiplier
-    (λ e. let (low, high) = in-range 1 lineCount line e in some-at numbers refl (line - 1) (omega (arith, low, high)))
+    by-cond (λ (n : ℕ). 0 < n) (isDue line) (shapeAt (line - 1) .number) multiplier
+    (λ e.
+    let (low, high) = in-range 1 lineCount line e in
+    rw (← number-of-shape shapes (line - 1)) (some-at numbers refl (line - 1) (omega (arith, low, high))))
     (λ e. omega arith)
 
 -- ---- what was refused stays
@@ -70,12 +75,6 @@ answer-by line last n h = let some = ne-eqb n 0 (λ e. omega arith) in rw (some,
 
 -- ---- the lines of the whole file: their shapes one after the other, and the line that is due
 
-number-of-shape : (xs : List Shape) (n : ℕ) → getD (numbersOf xs) n 0 ≡ getD xs n noShape .number
-unfolding numbersOf
-number-of-shape [] n = refl
-number-of-shape (x ∷ xs) zero = refl
-number-of-shape (x ∷ xs) (suc n) = number-of-shape xs n
-
 -- n lines are passed
 module _ (n line last : ℕ) (place : line ≡ suc n) where
   abbrev r : Reading
@@ -90,7 +89,7 @@ module _ (n line last : ℕ) (place : line ≡ suc n) where
     due = is-in-range 1 lineCount line (omega arith) (omega arith)
 
     number : numberDue line ≡ shapeAt n .number
-    number = let at : line - 1 ≡ n = omega arith in rw (due, at) (number-of-shape shapes n)
+    number = let at : line - 1 ≡ n = omega arith in rw (due, at)
 
     right : (l : List ℕ) → isRightAt line l ≡ isRight (shapeAt n .fields) l
     right l = let at : line - 1 ≡ n = omega arith in rw (due, at)

@@ -22,7 +22,9 @@ use Rattle.fields.specs.Field.{fitsField}
 use Rattle.config.specs.Config.{rateFields}
 use Rattle.config.specs.Reader.{isDue, isRightAt, numberDue}
 use Rattle.config.specs.Refusals.{multiplier}
-use Rattle.config.specs.Shape.{Shape, shapes, longestLine, isRight, fitAll, flat, allFields, fieldCount, anyField, startsFrom, starts, countsOf, counts, numbers, noShape, shapeAt, lineCount}
+use Rattle.config.specs.Line.{longestLine, isRight, fitAll}
+use Rattle.config.specs.device.Layout.{flat, allFields, fieldCount, anyField, startsFrom, starts, countsOf, fieldCounts, numbersOf, numbers}
+use Rattle.config.specs.Shape.{Shape, shapes, noShape, shapeAt, lineCount}
 use Rattle.fields.specs.device.Calls.{MarkFound, Leads, readable}
 use Rattle.config.specs.device.Calls.{FieldEnds, allReadable}
 use Rattle.fields.proofs.NumberLaws.{whole-leading}
@@ -227,13 +229,13 @@ part-within i [] n h = absurd (omega arith)
 part-within zero (x ∷ xs) n h = rw length-append (omega arith)
 part-within (suc i) (x ∷ xs) n h = rw length-append (omega (arith, part-within i xs (n + length (x .fields)) (omega arith)))
 
-line-fields : (i : ℕ) → i < lineCount → take (getD counts i 0) (drop (getD starts i 0) allFields) ≡ shapeAt i .fields
+line-fields : (i : ℕ) → i < lineCount → take (getD fieldCounts i 0) (drop (getD starts i 0) allFields) ≡ shapeAt i .fields
 line-fields i h = part-of i shapes [] h
 
-pub line-fields-as : (i : ℕ) → i < lineCount → (start count : ℕ) → start ≡ getD starts i 0 → count ≡ getD counts i 0 → take count (drop start allFields) ≡ shapeAt i .fields
+pub line-fields-as : (i : ℕ) → i < lineCount → (start count : ℕ) → start ≡ getD starts i 0 → count ≡ getD fieldCounts i 0 → take count (drop start allFields) ≡ shapeAt i .fields
 line-fields-as i h start count e f = rw (e, f) (line-fields i h)
 
-pub line-within : (i : ℕ) → i < lineCount → getD starts i 0 + getD counts i 0 ≤ fieldCount
+pub line-within : (i : ℕ) → i < lineCount → getD starts i 0 + getD fieldCounts i 0 ≤ fieldCount
 line-within i h = omega (arith, all-fields, part-within i shapes 0 h)
 
 -- ---- the second field of the rate's line
@@ -330,9 +332,15 @@ module _ (line : ℕ) (l : List ℕ) where
 
 -- ---- the refusal number of the line that is due
 
+pub number-of-shape : (xs : List Shape) (n : ℕ) → getD (numbersOf xs) n 0 ≡ getD xs n noShape .number
+unfolding numbersOf
+number-of-shape [] n = refl
+number-of-shape (x ∷ xs) zero = refl
+number-of-shape (x ∷ xs) (suc n) = number-of-shape xs n
+
 module _ (line : ℕ) where
   pub number-due-here : isDue line ≡ true → numberDue line ≡ getD numbers (line - 1) 0
-  number-due-here e = rw e
+  number-due-here e = rw e (sym (number-of-shape shapes (line - 1)))
 
   pub number-due-after : isDue line ≡ false → numberDue line ≡ multiplier
   number-due-after e = rw e

@@ -24,7 +24,8 @@ use Rattle.fields.specs.declared.field.Field.{Field}
 use Rattle.config.specs.declared.reader.ConfigRead.the-variants.{Accepted}
 use Rattle.config.specs.Refusals.{multiplier}
 use Rattle.fields.specs.Marks.{unspaced, allPrintable}
-use Rattle.config.specs.Shape.{Shape, shapes, lineCount, noShape, shapeAt, fitAll, longestLine, isRight}
+use Rattle.config.specs.Line.{fitAll, longestLine, isRight}
+use Rattle.config.specs.Shape.{Shape, shapes, lineCount, noShape, shapeAt}
 use Rattle.config.specs.Config.{refusedAt, rateLine, readFrom, configOf}
 
 -- ---- right fields, and the file that is put together from them

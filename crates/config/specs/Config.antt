@@ -1,8 +1,8 @@
--- A configuration file: what its lines give (02, E4). The law `config-of-calls` says that reading it by portions gives this,
+-- A configuration file: what its lines give (02, E4; the words quoted are those of docs/DECISIONS.md, 77 and 78). The law `config-of-calls` says that reading it by portions gives this,
 -- however the file is cut.
 use mathlib.Core.Bool.{cond}
 use mathlib.Core.List.{List, [], _∷_}
-use Prim.Native.Nat.{ℕ, _+_}
+use Prim.Native.Nat.{ℕ, _+_, _-_}
 use lib.Dec.{eqb}
 use lib.ListN.{getD}
 use Rattle.text.specs.Number.{valueOf}
@@ -14,7 +14,8 @@ use Rattle.config.specs.declared.reader.ConfigRead.the-variants.{Accepte
 use Rattle.fields.specs.Marks.{unspaced}
 use Rattle.config.specs.Refusals.{multiplier}
 use Rattle.fields.specs.declared.field.Field.{Field}
-use Rattle.config.specs.Shape.{Shape, shapes, shapeAt, isRight}
+use Rattle.config.specs.Line.{isRight}
+use Rattle.config.specs.Shape.{Shape, shapes, shapeAt}
 
 -- "the refusal number and the line number"
 abbrev pub refusedAt : ℕ → ℕ → ConfigRead
@@ -25,7 +26,7 @@ abbrev pub rateLine : ℕ
 rateLine = 9
 
 abbrev pub rateFields : List Field
-rateFields = shapeAt 8 .fields
+rateFields = shapeAt (rateLine - 1) .fields
 
 abbrev pub lastSampleIn : List ℕ → ℕ
 lastSampleIn l = valueOf (unspaced (getD (fieldsIn (body l)) 1 []))

@@ -3,7 +3,6 @@ use mathlib.Core.Bool.{Bool, true, false, cond, _&&_}
 use mathlib.Core.List.{List, [], _∷_}
 use Prim.Native.Nat.{ℕ, _+_, _-_}
 use lib.Dec.{eqb, ltb}
-use lib.ListN.{getD}
 use Rattle.checks.specs.Range.{inRange}
 use Rattle.text.specs.declared.lines.Closer.the-variants.{CrLf}
 use Rattle.text.specs.Lines.{Cutting, cutting}
@@ -14,7 +13,8 @@ use Rattle.config.specs.declared.reader.ConfigRead.{ConfigRead}
 use Rattle.config.specs.declared.reader.ConfigRead.the-variants.{Accepted}
 use Rattle.config.specs.Config.{refusedAt, lastAfter}
 use Rattle.config.specs.Refusals.{multiplier}
-use Rattle.config.specs.Shape.{lineCount, longestLine, isRight, shapeAt, numbers}
+use Rattle.config.specs.Line.{longestLine, isRight}
+use Rattle.config.specs.Shape.{lineCount, shapeAt}
 
 -- ---- how far it has come: the number of the line that is due, the last sample number, and the refusal, 0 where there is none
 
@@ -31,7 +31,7 @@ isRightAt line l = isDue line && isRight (shapeAt (line - 1) .fields) l
 
 -- the refusal number of the line that is due, after the thirteenth that of the multiplier
 abbrev pub numberDue : ℕ → ℕ
-numberDue line = cond (isDue line) (getD numbers (line - 1) 0) multiplier
+numberDue line = cond (isDue line) (shapeAt (line - 1) .number) multiplier
 
 abbrev pub passed : Reading → List ℕ → Reading
 passed r l = record { line = r .line + 1; last = lastAfter (r .line) l (r .last); refusal = 0 }

@@ -1,7 +1,7 @@
 // The recorder's configuration: thirteen lines of COMTRADE 1999, each held against its shape.
 mod line;
 mod reader;
-pub mod refusals;
+mod refusals;
 mod shape;
 
 pub use reader::ConfigRead;

@@ -8,11 +8,12 @@ ghost use Rattle.text.specs.Number.{valueOf};
 ghost use Rattle.text.specs.Line.{endsCrLf, fieldsIn};
 ghost use Rattle.fields.specs.Marks.{unspaced, allPrintable};
 ghost use Rattle.fields.specs.Field.{fitsField};
-ghost use Rattle.fields.specs.device.Calls.{readable};
-ghost use Rattle.config.specs.device.Calls.{FieldEnds};
+ghost use Rattle.config.specs.device.Calls.{FieldEnds, PartOf};
 ghost use Rattle.config.specs.Config.{lastSampleIn, rateFields};
 ghost use Rattle.config.specs.Reader.{isRightAt};
-ghost use Rattle.config.specs.Shape.{lineCount, fieldCount, allFields, shapeAt, fitAll, isRight};
+ghost use Rattle.config.specs.Line.{fitAll, isRight};
+ghost use Rattle.config.specs.device.Layout.{fieldCount, allFields};
+ghost use Rattle.config.specs.Shape.{lineCount, shapeAt};
 use crate::shape::LAST_LINE;
 use crate::shape::count_of;
 use crate::shape::field_at;
@@ -51,7 +52,7 @@ fn field_end(s: &[u8], at: usize) -> usize
 
 // Whether the bytes from one place to another are such a field.
 fn part_fits(field: Field, s: &[u8], at: usize, end: usize) -> bool
-    requires { ⌜ (readable field ≡ true) × (at ≤ end) × (end ≤ length (now s)) ⌝ }
+    requires { ⌜ PartOf field (now s) at end ⌝ }
     ensures { λ r. ⌜ r ≡ fitsField field (take (end - at) (drop at (now (s .entry)))) ⌝ }
 {
     fits(field, &s[at..end])
@@ -91,7 +92,7 @@ fn body_fits(place: usize, s: &[u8]) -> bool
 }
 
 // Whether a line is the one of this number.
-pub(crate) fn is_right(line: u32, l: &[u8]) -> bool
+pub(crate) fn is_right_at(line: u32, l: &[u8]) -> bool
     ensures { λ r. ⌜ r ≡ isRightAt line (now (l .entry)) ⌝ }
 {
     if !in_range(1, LAST_LINE, line) {

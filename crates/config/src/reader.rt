@@ -7,7 +7,7 @@ ghost use Rattle.config.specs.Config.{configNumber, lastAfter};
 ghost use Rattle.config.specs.Reader.{freshReader, numberDue, isRightAt, refused, afterLine, malformed};
 ghost use Rattle.config.specs.Reader.{lineLimit, taken, takeAnswer, lastReading, endRefusal, endAnswer};
 use crate::line::LONGEST_LINE;
-use crate::line::is_right;
+use crate::line::is_right_at;
 use crate::line::last_sample;
 use crate::refusals::MULTIPLIER;
 use crate::shape::LAST_LINE;
@@ -70,7 +70,7 @@ fn refuse(r: Reading) -> Reading
 }
 
 // A line that is malformed, whatever its bytes.
-fn refuse_due(r: Reading) -> Reading
+fn malformed(r: Reading) -> Reading
     ensures { λ x. ⌜ x ≡ malformed r ⌝ }
 {
     if r.refusal != 0 {
@@ -96,7 +96,7 @@ fn on_line(r: Reading, l: &[u8]) -> Reading
     if r.refusal != 0 {
         return r;
     }
-    if !is_right(r.line, l) {
+    if !is_right_at(r.line, l) {
         return refuse(r);
     }
     let last = last_after(r.line, l, r.last);
@@ -139,7 +139,7 @@ fn take_bytes(state: Reader, portion: &[u8]) -> Reader
                 continue;
             }
             Cut::TooLong => {
-                let reading = refuse_due(reading);
+                let reading = malformed(reading);
                 let cutter = Cutter::empty();
                 return Reader { reading, cutter };
             }
@@ -157,7 +157,7 @@ fn last_reading(state: Reader) -> Reading
     if count == 0 {
         return reading;
     }
-    refuse_due(reading)
+    malformed(reading)
 }
 
 fn end_refusal(r: Reading) -> u32
@@ -193,7 +193,7 @@ impl Reader {
         if count < LINE_LIMIT {
             return take_bytes(self, portion);
         }
-        let reading = refuse_due(self.reading);
+        let reading = malformed(self.reading);
         let cutter = Cutter::empty();
         Reader { reading, cutter }
     }

@@ -1,7 +1,7 @@
 // The refusal number of each line, by document 02.
 pub const STATION: u32 = 18;
 
-pub const COUNTS: u32 = 19;
+pub const CHANNEL_COUNTS: u32 = 19;
 
 pub const ANALOGUE: u32 = 20;
 

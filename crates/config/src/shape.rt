@@ -2,9 +2,10 @@
 ghost use mathlib.Core.Path.{_≡_};
 ghost use Prim.Native.Nat.{_<_};
 ghost use lib.ListN.{getD};
-ghost use Rattle.config.specs.Shape.{lineCount, fieldCount, allFields, anyField, starts, counts, numbers};
+ghost use Rattle.config.specs.device.Layout.{fieldCount, allFields, anyField, starts, fieldCounts, numbers};
+ghost use Rattle.config.specs.Shape.{lineCount};
 use crate::refusals::ANALOGUE;
-use crate::refusals::COUNTS;
+use crate::refusals::CHANNEL_COUNTS;
 use crate::refusals::DATE;
 use crate::refusals::FILE_TYPE;
 use crate::refusals::FREQUENCY;
@@ -103,7 +104,7 @@ const FIELD_COUNTS: [usize; LINE_COUNT] = [3, 3, 13, 13, 13, 5, 1, 1, 2, 2, 2, 1
 
 const NUMBERS: [u32; LINE_COUNT] = [
     STATION,
-    COUNTS,
+    CHANNEL_COUNTS,
     ANALOGUE,
     ANALOGUE,
     ANALOGUE,
@@ -134,7 +135,7 @@ pub(crate) fn start_of(place: usize) -> usize
 
 pub(crate) fn count_of(place: usize) -> usize
     requires { ⌜ place < lineCount ⌝ }
-    ensures { λ r. ⌜ r ≡ getD counts place 0 ⌝ }
+    ensures { λ r. ⌜ r ≡ getD fieldCounts place 0 ⌝ }
 {
     FIELD_COUNTS[place]
 }

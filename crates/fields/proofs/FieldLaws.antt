@@ -15,7 +15,8 @@ use Rattle.text.specs.Number.{digitLimit}
 use Rattle.text.specs.Words.{bytesOf}
 use Rattle.fields.specs.declared.field.Field.{Field}
 use Rattle.fields.specs.declared.field.Field.the-variants.{Whole, Decimal}
-use Rattle.fields.specs.Field.{isNumber, isNumberOrNothing, capitalOf, isWord, isPrimaryOrSecondary}
+use Rattle.fields.specs.Number.{isNumber, isNumberOrNothing}
+use Rattle.fields.specs.Field.{capitalOf, isWord, isPrimaryOrSecondary}
 use Rattle.fields.specs.device.Calls.{largeValue, readable}
 
 -- ---- a letter's capital

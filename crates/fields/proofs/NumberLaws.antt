@@ -14,7 +14,7 @@ use Rattle.checks.proofs.Tests.{both-true, below-range}
 use Rattle.text.specs.Number.{allDigits, leading, valueOf}
 use Rattle.text.proofs.DigitLaws.{all-leading, leading-all, value-nothing}
 use Rattle.fields.specs.Marks.{has, before, after, beginsWith}
-use Rattle.fields.specs.Field.{isWhole, minus, point, signFits, someDigits, isOfValue, isNothing, wholeThen, optionally}
+use Rattle.fields.specs.Number.{isWhole, minus, point, signFits, someDigits, isOfValue, isNothing, wholeThen, optionally}
 use Rattle.fields.specs.device.Calls.{MarkFound, wholeLead, WholeLeads, largeValue}
 use Rattle.fields.proofs.MarkLaws.{front, rest as m-rest, marked, markless, nothing-after, after-dropped}
 

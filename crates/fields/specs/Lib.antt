@@ -1,3 +1,4 @@
 pub mod Marks
+pub mod Number
 pub mod Field
 pub mod device

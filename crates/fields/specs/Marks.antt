@@ -1,4 +1,5 @@
--- A text and the first of its bytes that is a mark: what stands before it and after it.
+-- A text and the first of its bytes that is a mark: what stands before it and after it (02, E4; the words quoted are those of
+-- docs/DECISIONS.md, 78 to 80).
 use mathlib.Core.Bool.{Bool, true, false, cond, _&&_, _||_}
 use mathlib.Core.List.{List, [], _∷_}
 use Prim.Native.Nat.{ℕ}

@@ -1,16 +1,17 @@
 // The sorts of fields, and whether bytes are such a field.
 ghost use mathlib.Core.Path.{_≡_};
 ghost use mathlib.Core.Bool.{true};
-ghost use Rattle.fields.specs.Field.{capitalOf, isWord, isPrimaryOrSecondary, isNumberOrNothing};
+ghost use Rattle.fields.specs.Number.{isNumberOrNothing};
+ghost use Rattle.fields.specs.Field.{capitalOf, isWord, isPrimaryOrSecondary};
 ghost use Rattle.fields.specs.Field.{isMonthAndYear, isDate, isSeconds, isMinutes, isTime, fitsField};
 ghost use Rattle.fields.specs.device.Calls.{readable};
 use crate::marks::spaces;
 use crate::number::after_whole;
-use crate::number::channels;
-use crate::number::decimal_of;
-use crate::number::extreme;
-use crate::number::number;
-use crate::number::whole;
+use crate::number::is_channels;
+use crate::number::is_decimal_of;
+use crate::number::is_extreme;
+use crate::number::is_number;
+use crate::number::is_whole;
 
 // What a field must be.
 pub enum Field {
@@ -33,7 +34,7 @@ pub enum Field {
     Time,
 }
 
-fn capital(b: u8) -> u8
+fn capital_of(b: u8) -> u8
     ensures { λ r. ⌜ r ≡ capitalOf b ⌝ }
 {
     if b < b'a' {
@@ -54,7 +55,7 @@ fn is_word(s: &[u8], word: &[u8]) -> bool
     }
     let mut i = 0;
     while i < s.len() {
-        if capital(s[i]) != word[i] {
+        if capital_of(s[i]) != word[i] {
             return false;
         }
         i += 1;
@@ -62,68 +63,68 @@ fn is_word(s: &[u8], word: &[u8]) -> bool
     true
 }
 
-fn month_and_year(s: &[u8]) -> bool
+fn is_month_and_year(s: &[u8]) -> bool
     ensures { λ r. ⌜ r ≡ isMonthAndYear (now (s .entry)) ⌝ }
 {
     let n = after_whole(s, b'/', 1, 2, 1, 12);
     if n == 0 {
         return false;
     }
-    whole(&s[n..], 4, 4, 1900, 9999)
+    is_whole(&s[n..], 4, 4, 1900, 9999)
 }
 
 // dd/mm/yyyy, from the year 1900 on.
-fn date(s: &[u8]) -> bool
+fn is_date(s: &[u8]) -> bool
     ensures { λ r. ⌜ r ≡ isDate (now (s .entry)) ⌝ }
 {
     let n = after_whole(s, b'/', 1, 2, 1, 31);
     if n == 0 {
         return false;
     }
-    month_and_year(&s[n..])
+    is_month_and_year(&s[n..])
 }
 
-fn seconds(s: &[u8]) -> bool
+fn is_seconds(s: &[u8]) -> bool
     ensures { λ r. ⌜ r ≡ isSeconds (now (s .entry)) ⌝ }
 {
     let n = after_whole(s, b'.', 2, 2, 0, 59);
     if n == 0 {
         return false;
     }
-    whole(&s[n..], 6, 6, 0, 999999)
+    is_whole(&s[n..], 6, 6, 0, 999999)
 }
 
-fn minutes(s: &[u8]) -> bool
+fn is_minutes(s: &[u8]) -> bool
     ensures { λ r. ⌜ r ≡ isMinutes (now (s .entry)) ⌝ }
 {
     let n = after_whole(s, b':', 2, 2, 0, 59);
     if n == 0 {
         return false;
     }
-    seconds(&s[n..])
+    is_seconds(&s[n..])
 }
 
 // hh:mm:ss.ssssss
-fn time(s: &[u8]) -> bool
+fn is_time(s: &[u8]) -> bool
     ensures { λ r. ⌜ r ≡ isTime (now (s .entry)) ⌝ }
 {
     let n = after_whole(s, b':', 2, 2, 0, 23);
     if n == 0 {
         return false;
     }
-    minutes(&s[n..])
+    is_minutes(&s[n..])
 }
 
-fn number_or_nothing(s: &[u8]) -> bool
+fn is_number_or_nothing(s: &[u8]) -> bool
     ensures { λ r. ⌜ r ≡ isNumberOrNothing (now (s .entry)) ⌝ }
 {
     if s.len() == 0 {
         return true;
     }
-    number(s)
+    is_number(s)
 }
 
-fn primary_or_secondary(s: &[u8]) -> bool
+fn is_primary_or_secondary(s: &[u8]) -> bool
     ensures { λ r. ⌜ r ≡ isPrimaryOrSecondary (now (s .entry)) ⌝ }
 {
     if is_word(s, b"P") {
@@ -141,15 +142,15 @@ pub fn fits(field: Field, s: &[u8]) -> bool
     let t = &s[n..];
     match field {
         Field::Text(least, most) => (least <= s.len()) & (s.len() <= most),
-        Field::Whole(least, most, low, high) => whole(t, least, most, low, high),
-        Field::Channels(value, letter) => channels(t, value, letter),
-        Field::Decimal(value) => decimal_of(t, value),
-        Field::Number => number(t),
-        Field::NumberOrNothing => number_or_nothing(t),
-        Field::Extreme => extreme(t),
-        Field::PrimaryOrSecondary => primary_or_secondary(t),
+        Field::Whole(least, most, low, high) => is_whole(t, least, most, low, high),
+        Field::Channels(value, letter) => is_channels(t, value, letter),
+        Field::Decimal(value) => is_decimal_of(t, value),
+        Field::Number => is_number(t),
+        Field::NumberOrNothing => is_number_or_nothing(t),
+        Field::Extreme => is_extreme(t),
+        Field::PrimaryOrSecondary => is_primary_or_secondary(t),
         Field::Ascii => is_word(t, b"ASCII"),
-        Field::Date => date(t),
-        Field::Time => time(t),
+        Field::Date => is_date(t),
+        Field::Time => is_time(t),
     }
 }

@@ -2,8 +2,8 @@
 ghost use mathlib.Core.Path.{_≡_};
 ghost use Prim.Native.Nat.{_-_, _≤_, _<_, min};
 ghost use Rattle.text.specs.Number.{valueOf, digitLimit};
-ghost use Rattle.fields.specs.Field.{isWhole, isChannels, isExtreme, someDigits, isExponent, isUnsignedDecimal, isDecimal};
-ghost use Rattle.fields.specs.Field.{isOfValue, signFits, isDecimalOf, isNumber};
+ghost use Rattle.fields.specs.Number.{isWhole, isChannels, isExtreme, someDigits, isExponent, isUnsignedDecimal, isDecimal};
+ghost use Rattle.fields.specs.Number.{isOfValue, signFits, isDecimalOf, isNumber};
 ghost use Rattle.fields.specs.device.Calls.{WholeLeads, largeValue};
 use crate::marks::all_within;
 use crate::marks::begins_with;
@@ -18,7 +18,7 @@ const LONGEST_NUMBER: usize = 32;
 const LARGE: u64 = 1001;
 
 // So many digits, of a value in a range.
-pub(crate) fn whole(s: &[u8], least: usize, most: usize, low: u64, high: u64) -> bool
+pub(crate) fn is_whole(s: &[u8], least: usize, most: usize, low: u64, high: u64) -> bool
     requires { ⌜ most ≤ digitLimit ⌝ }
     ensures { λ r. ⌜ r ≡ isWhole least most low high (now (s .entry)) ⌝ }
 {
@@ -51,14 +51,14 @@ pub(crate) fn after_whole(
     if n == s.len() {
         return 0;
     }
-    if whole(&s[..n], least, most, low, high) {
+    if is_whole(&s[..n], least, most, low, high) {
         return n + 1;
     }
     0
 }
 
 // So many channels, and the letter of their sort.
-pub(crate) fn channels(s: &[u8], value: u64, letter: u8) -> bool
+pub(crate) fn is_channels(s: &[u8], value: u64, letter: u8) -> bool
     ensures { λ r. ⌜ r ≡ isChannels value letter (now (s .entry)) ⌝ }
 {
     let n = after_whole(s, letter, 1, 6, value, value);
@@ -69,11 +69,11 @@ pub(crate) fn channels(s: &[u8], value: u64, letter: u8) -> bool
 }
 
 // The least or the greatest sample.
-pub(crate) fn extreme(s: &[u8]) -> bool
+pub(crate) fn is_extreme(s: &[u8]) -> bool
     ensures { λ r. ⌜ r ≡ isExtreme (now (s .entry)) ⌝ }
 {
     let n = mark_length(s, b'-', b'-');
-    whole(&s[n..], 1, 7, 0, 9999999)
+    is_whole(&s[n..], 1, 7, 0, 9999999)
 }
 
 fn some_digits(s: &[u8]) -> bool
@@ -114,7 +114,7 @@ fn value_to_large(s: &[u8]) -> u64
 }
 
 // A decimal without its sign.
-fn unsigned_decimal(s: &[u8]) -> bool
+fn is_unsigned_decimal(s: &[u8]) -> bool
     ensures { λ r. ⌜ r ≡ isUnsignedDecimal (now (s .entry)) ⌝ }
 {
     let n = until(s, b'.', b'.');
@@ -127,15 +127,15 @@ fn unsigned_decimal(s: &[u8]) -> bool
     some_digits(&s[n + 1..])
 }
 
-fn decimal(s: &[u8]) -> bool
+fn is_decimal(s: &[u8]) -> bool
     ensures { λ r. ⌜ r ≡ isDecimal (now (s .entry)) ⌝ }
 {
     let n = mark_length(s, b'+', b'-');
-    unsigned_decimal(&s[n..])
+    is_unsigned_decimal(&s[n..])
 }
 
 // Whether a decimal without its sign has this value.
-fn of_value(s: &[u8], v: u64) -> bool
+fn is_of_value(s: &[u8], v: u64) -> bool
     requires { ⌜ v < largeValue ⌝ }
     ensures { λ r. ⌜ r ≡ isOfValue v (now (s .entry)) ⌝ }
 {
@@ -159,7 +159,7 @@ fn sign_fits(s: &[u8], v: u64) -> bool
 }
 
 // A decimal of this value.
-pub(crate) fn decimal_of(s: &[u8], v: u64) -> bool
+pub(crate) fn is_decimal_of(s: &[u8], v: u64) -> bool
     requires { ⌜ v < largeValue ⌝ }
     ensures { λ r. ⌜ r ≡ isDecimalOf v (now (s .entry)) ⌝ }
 {
@@ -169,15 +169,15 @@ pub(crate) fn decimal_of(s: &[u8], v: u64) -> bool
     if !sign_fits(s, v) {
         return false;
     }
-    if !decimal(s) {
+    if !is_decimal(s) {
         return false;
     }
     let n = mark_length(s, b'+', b'-');
-    of_value(&s[n..], v)
+    is_of_value(&s[n..], v)
 }
 
 // The digits of an exponent.
-fn exponent(s: &[u8]) -> bool
+fn is_exponent(s: &[u8]) -> bool
     ensures { λ r. ⌜ r ≡ isExponent (now (s .entry)) ⌝ }
 {
     let n = mark_length(s, b'+', b'-');
@@ -185,18 +185,18 @@ fn exponent(s: &[u8]) -> bool
 }
 
 // A decimal, with or without an exponent.
-pub(crate) fn number(s: &[u8]) -> bool
+pub(crate) fn is_number(s: &[u8]) -> bool
     ensures { λ r. ⌜ r ≡ isNumber (now (s .entry)) ⌝ }
 {
     if LONGEST_NUMBER < s.len() {
         return false;
     }
     let n = until(s, b'e', b'E');
-    if !decimal(&s[..n]) {
+    if !is_decimal(&s[..n]) {
         return false;
     }
     if n == s.len() {
         return true;
     }
-    exponent(&s[n + 1..])
+    is_exponent(&s[n + 1..])
 }

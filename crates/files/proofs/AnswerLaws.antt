@@ -8,7 +8,10 @@ use native.Mathlib.Omega.{arith}
 use lib.Dec.{leb, ltb}
 use lib.ListN.{length}
 use borrow.Author.Tests.{le-leb, lt-leb, lt-ltb, leb-true, ltb-true}
+use Rattle.config.specs.declared.reader.ConfigRead.{ConfigRead}
 use Rattle.config.specs.Config.{configOf}
+use Rattle.config.specs.Reader.{freshReader, takenAll, endAnswer}
+use Rattle.config.proofs.ConfigLaws.{config-of-calls}
 use Rattle.files.specs.declared.configuration.Configuration.{Configuration}
 use Rattle.files.specs.declared.configuration.Configuration.the-variants.{Absent, Given}
 use Rattle.files.specs.declared.output.Form.{Form}
@@ -123,10 +126,12 @@ module _ (room last : ℕ) (k : endRoom ≤ last) where
       → notesAndEnd (handedOut (freshReplay Changes Absent) ps room last) ≡ replayOf (joined ps)
   replay-of-calls ps e = ap notesAndEnd (told-of-calls Changes Absent ps e)
 
-  -- and with a configuration, from what its reader answered
-  pub configured-replay-of-calls : (c : List ℕ) (ps : List (List ℕ)) → roomFor Changes ps room ≡ true
-      → notesAndEnd (handedOut (freshReplay Changes (Given (configOf c))) ps room last) ≡ configuredReplayOf c (joined ps)
-  configured-replay-of-calls c ps e = ap notesAndEnd (told-of-calls Changes (Given (configOf c)) ps e)
+  -- and with a configuration, from what its reader answers, whatever the portions of either
+  pub configured-replay-of-calls : (cs ps : List (List ℕ)) → roomFor Changes ps room ≡ true
+      → notesAndEnd (handedOut (freshReplay Changes (Given (endAnswer (takenAll freshReader cs)))) ps room last) ≡ configuredReplayOf (joined cs) (joined ps)
+  configured-replay-of-calls cs ps e =
+      ap (λ (a : ConfigRead). notesAndEnd (handedOut (freshReplay Changes (Given a)) ps room last)) (config-of-calls cs)
+      ∙ ap notesAndEnd (told-of-calls Changes (Given (configOf (joined cs))) ps e)
 
 -- what comes before the end does not depend on the end's room
 notes-alone : (r : Replay) (ps : List (List ℕ)) (room a b : ℕ) → handedOut r ps room a .notes ≡ handedOut r ps room b .notes

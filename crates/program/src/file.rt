@@ -6,8 +6,8 @@ use crate::failure::say_failure;
 use libc::EINTR;
 use libc::ENAMETOOLONG;
 
-// Puts an argument at the front of `buf` and answers its length. One that is longer fills `buf`: so much is no path where it has
-// `libc::PATH_MAX` bytes, which `open_file` tells.
+// Puts an argument at the front of `buf` and answers its length. One that does not fit answers all of `buf`: where that has
+// `libc::PATH_MAX` bytes it is too long for a path, which `open_file` tells.
 pub fn path_argument(i: usize, buf: &mut [u8]) -> usize
     ensures { λ r. ⌜ Counts r (now (buf .exit)) ⌝ }
 {

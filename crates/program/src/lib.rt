@@ -1,5 +1,5 @@
 // What the programs share: a portion of standard input or of a file, bytes to an output, and a failure told on standard error. A
-// call that a signal interrupts is tried again.
+// read, write or open that a signal interrupts is tried again.
 mod failure;
 mod file;
 mod input;

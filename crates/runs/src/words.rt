@@ -38,7 +38,7 @@ fn say_configuration(refusal: u32) -> usize {
     say(b" is missing, malformed or not one that we take")
 }
 
-// In the words of document 01's table, and of E4.
+// In the words of document 01's table, and of document 02's E4.
 pub(crate) fn say_refusal(refusal: u32) -> usize {
     match refusal {
         1..=7 => say_setting(refusal),

@@ -17,3 +17,9 @@ allReadable (k ∷ ks) = readable k && allReadable ks
 pub record FieldEnds (s : List ℕ) (at end : ℕ) : Type 0 where
   pub ended : end ≡ at + length (before comma comma (drop at s))
   pub within : end ≤ length s
+
+-- a field that the code reads, from one place of a text to another
+pub record PartOf (field : Field) (s : List ℕ) (at end : ℕ) : Type 0 where
+  pub fit : readable field ≡ true
+  pub begins : at ≤ end
+  pub within : end ≤ length s

@@ -7,9 +7,10 @@ use lib.Dec.{leb, ltb}
 use lib.ListN.{length, drop}
 use Rattle.text.specs.Number.{digitLimit}
 use Rattle.fields.specs.declared.field.Field.{Field}
-use Rattle.fields.specs.declared.field.Field.the-variants.{Text, Whole, Channels, Decimal, Number, NumberOrNothing, Extreme, PrimaryOrSecondary, Ascii, Date, Time}
+use Rattle.fields.specs.declared.field.Field.the-variants.{Text, Whole, Channels, Decimal, Number, NumberOrNothing}
+use Rattle.fields.specs.declared.field.Field.the-variants.{Extreme, PrimaryOrSecondary, Ascii, Date, Time}
 use Rattle.fields.specs.Marks.{has, before}
-use Rattle.fields.specs.Field.{isWhole}
+use Rattle.fields.specs.Number.{isWhole}
 
 -- what is left of a text after so many bytes
 pub record Leads (s rest : List ℕ) (n : ℕ) : Type 0 where

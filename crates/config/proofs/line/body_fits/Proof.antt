@@ -6,7 +6,7 @@ use native.Mathlib.Omega.{arith}
 use borrow.Author.Tests.{not-true, not-false}
 use Rattle.text.specs.Line.{fieldsIn}
 use Rattle.fields.specs.declared.field.Field.{Field}
-use Rattle.config.specs.Shape.{fitAll}
+use Rattle.config.specs.Line.{fitAll}
 use Rattle.config.proofs.LineLaws.{line-fields-as, line-within}
 use Rattle.fields.proofs.MarkLaws.{refused-first, passed-first}
 use borrow.Author.Needs.{needs}

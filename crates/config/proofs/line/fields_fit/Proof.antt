@@ -1,11 +1,12 @@
 -- `config::line::fields_fit` meets its contract: the fields that were passed are what they must be, and those from there on tell.
 -- Assumes nothing.
 use mathlib.Core.Path.{sym, _∙_, ap}
-use Prim.Native.Nat.{_+_, _-_}
+use Prim.Native.Nat.{_+_, _-_, _<_}
 use Rattle.fields.specs.declared.field.Field.{Field}
 use Rattle.fields.specs.device.Calls.{readable}
 use native.Mathlib.Omega.{arith}
 use borrow.Author.Tests.{not-true, not-false}
+use Rattle.config.specs.device.Layout.{fieldCount}
 use Rattle.config.proofs.LineLaws.{FieldsTurn, turn-first, turn-wrong, turn-last, turn-next, turn-over, field-readable, begins-first}
 use borrow.Author.Needs.{needs}
 use Rattle.config.proofs.line.fields_fit.Statement.{statement}
@@ -32,8 +33,14 @@ field-at-requires c κs = omega (arith, c .before .before .before .before .pre, 
 part-fits-requires : tie.Need-part-fits-requires Inv-loop μ-loop
 part-fits-requires c κs =
     let a = c .before .before .before .before .before .args in
-    let e = c .before .field-end .ensures in
-    (ap (λ (k : Field). readable k) (c .field-at .ensures) ∙ (field-readable (a .first + c .before .before .before .loop .k) (omega (arith, c .before .before .before .before .before .pre, c .before .before .loop-test .taken))), begins-first (a .s .now) (c .before .before .before .loop .at) (c .before .field-end .result) e (c .before .before .before .loop .inv .begins), e .within)
+    let l = c .before .before .before .loop in
+    let e = c .before .field-end in
+    let inside : a .first + l .k < fieldCount = omega (arith, c .before .before .before .before .before .pre, c .before .before .loop-test .taken) in
+    record {
+      fit = ap (λ (k : Field). readable k) (c .field-at .ensures) ∙ field-readable (a .first + l .k) inside;
+      begins = begins-first (a .s .now) (l .at) (e .result) (e .ensures) (l .inv .begins);
+      within = e .ensures .within;
+    }
 
 returns : tie.Need-returns Inv-loop μ-loop
 returns c =

@@ -15,14 +15,14 @@ returns c =
     let r = c .before .before .args .state in
     ap (λ (t : Bool). malformedIf t (r .reading)) (sym (le-ltb 0 (r .cutter .count) (omega (arith, c .if1 .taken))))
 
-refuse-due-requires : tie.Need-refuse-due-requires
-refuse-due-requires c κs = search needs
+malformed-requires : tie.Need-malformed-requires
+malformed-requires c κs = search needs
 
 returns-2 : tie.Need-returns-2
 unfolding malformedIf
 returns-2 c =
     let r = c .before .before .before .args .state in
-    c .refuse-due .ensures ∙ ap (λ (t : Bool). malformedIf t (r .reading)) (sym (lt-ltb 0 (r .cutter .count) (omega (arith, c .before .if1 .left))))
+    c .malformed .ensures ∙ ap (λ (t : Bool). malformedIf t (r .reading)) (sym (lt-ltb 0 (r .cutter .count) (omega (arith, c .before .if1 .left))))
 
 pub last-reading-spec : {M : Type 1} → statement M
-last-reading-spec = tie.close (tie.spec returns refuse-due-requires returns-2)
+last-reading-spec = tie.close (tie.spec returns malformed-requires returns-2)

@@ -15,8 +15,8 @@ returns : tie.Need-returns
 unfolding afterLineIf
 returns c = rw (ne-eqb (c .before .before .before .args .r .refusal) 0 (c .if1 .taken))
 
-is-right-requires : tie.Need-is-right-requires
-is-right-requires c κs = search needs
+is-right-at-requires : tie.Need-is-right-at-requires
+is-right-at-requires c κs = search needs
 
 refuse-requires : tie.Need-refuse-requires
 refuse-requires c κs = search needs
@@ -25,16 +25,16 @@ returns-2 : tie.Need-returns-2
 unfolding afterLineIf
 returns-2 c =
     let a = c .before .before .before .before .before .before .args in
-    let wrong : isRightAt (a .r .line) (a .l .now) ≡ false = sym (c .before .before .is-right .ensures) ∙ not-true _ (c .before .if2 .taken) in
+    let wrong : isRightAt (a .r .line) (a .l .now) ≡ false = sym (c .before .before .is-right-at .ensures) ∙ not-true _ (c .before .if2 .taken) in
     rw (eq-eqb (a .r .refusal) 0 (c .before .before .before .if1 .left), wrong) (c .refuse .ensures)
 
 last-after-requires : tie.Need-last-after-requires
-last-after-requires c κs = sym (c .before .is-right .ensures) ∙ not-false _ (c .if2 .left)
+last-after-requires c κs = sym (c .before .is-right-at .ensures) ∙ not-false _ (c .if2 .left)
 
 add-t6 : tie.Need-add-t6
 add-t6 c =
     let a = c .before .before .before .before .before .before .before .args in
-    let right : isRightAt (a .r .line) (a .l .now) ≡ true = sym (c .before .before .before .is-right .ensures) ∙ not-false _ (c .before .before .if2 .left) in
+    let right : isRightAt (a .r .line) (a .l .now) ≡ true = sym (c .before .before .before .is-right-at .ensures) ∙ not-false _ (c .before .before .if2 .left) in
     let due = both-true (isDue (a .r .line)) _ right .0 in
     omega (arith, in-range 1 lineCount (a .r .line) due .1)
 
@@ -42,7 +42,7 @@ returns-3 : tie.Need-returns-3
 unfolding afterLineIf
 returns-3 c =
     let a = c .before .before .before .before .before .before .before .args in
-    let right : isRightAt (a .r .line) (a .l .now) ≡ true = sym (c .before .before .before .is-right .ensures) ∙ not-false _ (c .before .before .if2 .left) in
+    let right : isRightAt (a .r .line) (a .l .now) ≡ true = sym (c .before .before .before .is-right-at .ensures) ∙ not-false _ (c .before .before .if2 .left) in
     rw (eq-eqb (a .r .refusal) 0 (c .before .before .before .before .if1 .left), right, c .before .last-after .ensures)
 
 pub on-line-spec : {M : Type 1} → statement M
@@ -50,7 +50,7 @@ on-line-spec =
     tie.close
     (tie.spec
     returns
-    is-right-requires
+    is-right-at-requires
     refuse-requires
     returns-2
     last-after-requires

@@ -74,8 +74,8 @@ loop-again c =
 enum-told-3 : tie.Need-enum-told-3 Inv-loop μ-loop
 enum-told-3 c = search needs
 
-refuse-due-requires : tie.Need-refuse-due-requires Inv-loop μ-loop
-refuse-due-requires c κs = search needs
+malformed-requires : tie.Need-malformed-requires Inv-loop μ-loop
+malformed-requires c κs = search needs
 
 empty-requires-2 : tie.Need-empty-requires-2 Inv-loop μ-loop
 empty-requires-2 c κs = search needs
@@ -87,7 +87,7 @@ returns-2 c =
     let more = c .before .before .before .before .before .before .loop-test .taken in
     let k = c .before .before .before .before .before .cut in
     let s : Reader = record { reading = l .reading; cutter = l .cutter } in
-    rw (c .empty2 .ensures, c .before .refuse-due .ensures) (turn-long (a .state) (a .portion .now) (l .i) s (l .inv) more (k .result) (k .ensures) (c .before .before .enum-told3 .given .1))
+    rw (c .empty2 .ensures, c .before .malformed .ensures) (turn-long (a .state) (a .portion .now) (l .i) s (l .inv) more (k .result) (k .ensures) (c .before .before .enum-told3 .given .1))
 
 returns-3 : tie.Need-returns-3 Inv-loop μ-loop
 returns-3 c =
@@ -111,7 +111,7 @@ take-bytes-spec =
     loop-less
     loop-again
     enum-told-3
-    refuse-due-requires
+    malformed-requires
     empty-requires-2
     returns-2
     returns-3)

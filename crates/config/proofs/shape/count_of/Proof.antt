@@ -2,7 +2,7 @@
 -- Assumes nothing.
 use mathlib.Core.Path.{refl}
 use borrow.Author.Needs.{needs}
-use Rattle.config.specs.Shape.{countsOf}
+use Rattle.config.specs.device.Layout.{countsOf}
 use Rattle.config.proofs.shape.count_of.Statement.{statement}
 use Rattle.config.proofs.shape.count_of.Tie as tie
 

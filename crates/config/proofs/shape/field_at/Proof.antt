@@ -2,7 +2,7 @@
 -- Assumes nothing.
 use mathlib.Core.Path.{refl}
 use borrow.Author.Needs.{needs}
-use Rattle.config.specs.Shape.{flat}
+use Rattle.config.specs.device.Layout.{flat}
 use Rattle.config.proofs.shape.field_at.Statement.{statement}
 use Rattle.config.proofs.shape.field_at.Tie as tie
 

@@ -2,7 +2,7 @@
 -- Assumes nothing.
 use mathlib.Core.Path.{refl}
 use borrow.Author.Needs.{needs}
-use Rattle.config.specs.Shape.{numbersOf}
+use Rattle.config.specs.device.Layout.{numbersOf}
 use Rattle.config.proofs.shape.number_of.Statement.{statement}
 use Rattle.config.proofs.shape.number_of.Tie as tie
 

@@ -2,7 +2,7 @@
 -- Assumes nothing.
 use mathlib.Core.Path.{refl}
 use borrow.Author.Needs.{needs}
-use Rattle.config.specs.Shape.{startsFrom}
+use Rattle.config.specs.device.Layout.{startsFrom}
 use Rattle.config.proofs.shape.start_of.Statement.{statement}
 use Rattle.config.proofs.shape.start_of.Tie as tie
 

@@ -22,11 +22,11 @@ returns c = let a = c .before .before .before .args in sym (other-length (a .wor
 loop-holds : tie.Need-loop-holds Inv-loop μ-loop
 loop-holds c = (sym (c .if1 .left), refl)
 
-shared-slice-read-capital : tie.Need-shared-slice-read-capital Inv-loop μ-loop
-shared-slice-read-capital c = search needs
+shared-slice-read-capital-of : tie.Need-shared-slice-read-capital-of Inv-loop μ-loop
+shared-slice-read-capital-of c = search needs
 
-capital-requires : tie.Need-capital-requires Inv-loop μ-loop
-capital-requires c κs = search needs
+capital-of-requires : tie.Need-capital-of-requires Inv-loop μ-loop
+capital-of-requires c κs = search needs
 
 shared-slice-read-if2 : tie.Need-shared-slice-read-if2 Inv-loop μ-loop
 shared-slice-read-if2 c = search needs
@@ -35,7 +35,7 @@ returns-2 : tie.Need-returns-2 Inv-loop μ-loop
 returns-2 c =
     let a = c .before .before .before .before .before .before .before .before .before .args in
     let l = c .before .before .before .before .before .loop in
-    sym (l .inv .1 ∙ other-letter (a .word .now) (a .s .now) (l .inv .0) (l .i) (c .before .before .before .before .loop-test .taken) (λ e. c .if2 .taken (c .before .before .capital .ensures ∙ e)))
+    sym (l .inv .1 ∙ other-letter (a .word .now) (a .s .now) (l .inv .0) (l .i) (c .before .before .before .before .loop-test .taken) (λ e. c .if2 .taken (c .before .before .capital-of .ensures ∙ e)))
 
 add-i : tie.Need-add-i Inv-loop μ-loop
 add-i c = search needs
@@ -47,7 +47,7 @@ loop-again : tie.Need-loop-again Inv-loop μ-loop
 loop-again c =
     let a = c .before .before .before .before .before .before .before .before .before .args in
     let l = c .before .before .before .before .before .loop in
-    (l .inv .0, l .inv .1 ∙ letter-on (a .word .now) (a .s .now) (l .inv .0) (l .i) (c .before .before .before .before .loop-test .taken) (sym (c .before .before .capital .ensures) ∙ c .if2 .left))
+    (l .inv .0, l .inv .1 ∙ letter-on (a .word .now) (a .s .now) (l .inv .0) (l .i) (c .before .before .before .before .loop-test .taken) (sym (c .before .before .capital-of .ensures) ∙ c .if2 .left))
 
 returns-3 : tie.Need-returns-3 Inv-loop μ-loop
 returns-3 c =
@@ -63,8 +63,8 @@ is-word-spec =
     μ-loop
     returns
     loop-holds
-    shared-slice-read-capital
-    capital-requires
+    shared-slice-read-capital-of
+    capital-of-requires
     shared-slice-read-if2
     returns-2
     add-i

@@ -12,11 +12,11 @@ until-requires c κs = search needs
 returns : tie.Need-returns
 returns c = let a = c .before .before .before .args in unmarked-leads (a .mark) (a .least) (a .most) (a .low) (a .high) (a .s .now) _ (c .before .until .ensures) (c .if1 .taken)
 
-slice-aggregate-whole : tie.Need-slice-aggregate-whole
-slice-aggregate-whole c = part-length (c .before .before .before .before .args .s .now) _ (c .before .before .until .ensures .within)
+slice-aggregate-is-whole : tie.Need-slice-aggregate-is-whole
+slice-aggregate-is-whole c = part-length (c .before .before .before .before .args .s .now) _ (c .before .before .until .ensures .within)
 
-whole-requires : tie.Need-whole-requires
-whole-requires c κs = search needs
+is-whole-requires : tie.Need-is-whole-requires
+is-whole-requires c κs = search needs
 
 add-result : tie.Need-add-result
 add-result c = search needs
@@ -24,12 +24,12 @@ add-result c = search needs
 returns-2 : tie.Need-returns-2
 returns-2 c =
     let a = c .before .before .before .before .before .before .args in
-    whole-leads (a .mark) (a .least) (a .most) (a .low) (a .high) (a .s .now) _ (c .before .before .before .before .until .ensures) (c .before .before .before .if1 .left) _ (c .before .whole .ensures) (c .if2 .taken)
+    whole-leads (a .mark) (a .least) (a .most) (a .low) (a .high) (a .s .now) _ (c .before .before .before .before .until .ensures) (c .before .before .before .if1 .left) _ (c .before .is-whole .ensures) (c .if2 .taken)
 
 returns-3 : tie.Need-returns-3
 returns-3 c =
     let a = c .before .before .before .before .before .before .args in
-    none-leads (a .mark) (a .least) (a .most) (a .low) (a .high) (a .s .now) _ (c .before .before .before .before .until .ensures) (c .before .before .before .if1 .left) _ (c .before .whole .ensures) (c .if2 .left)
+    none-leads (a .mark) (a .least) (a .most) (a .low) (a .high) (a .s .now) _ (c .before .before .before .before .until .ensures) (c .before .before .before .if1 .left) _ (c .before .is-whole .ensures) (c .if2 .left)
 
 pub after-whole-spec : {M : Type 1} → statement M
 after-whole-spec =
@@ -37,8 +37,8 @@ after-whole-spec =
     (tie.spec
     until-requires
     returns
-    slice-aggregate-whole
-    whole-requires
+    slice-aggregate-is-whole
+    is-whole-requires
     add-result
     returns-2
     returns-3)

@@ -18,8 +18,8 @@ returns c =
     let a = c .before .before .before .args in
     c .take-bytes .ensures ∙ ap (λ (t : Bool). takenIf t (a .self) (a .portion .now)) (sym (lt-ltb (a .self .cutter .count) lineLimit (omega (arith, c .before .if1 .taken))))
 
-refuse-due-requires : tie.Need-refuse-due-requires
-refuse-due-requires c κs = search needs
+malformed-requires : tie.Need-malformed-requires
+malformed-requires c κs = search needs
 
 empty-requires : tie.Need-empty-requires
 empty-requires c κs = search needs
@@ -28,9 +28,9 @@ returns-2 : tie.Need-returns-2
 unfolding takenIf
 returns-2 c =
     let a = c .before .before .before .before .args in
-    rw (c .empty .ensures, c .before .refuse-due .ensures)
+    rw (c .empty .ensures, c .before .malformed .ensures)
     (ap (λ (t : Bool). takenIf t (a .self) (a .portion .now)) (sym (le-ltb (a .self .cutter .count) lineLimit (omega (arith, c .before .before .if1 .left)))))
 
 pub take-spec : {M : Type 1} → statement M
 take-spec =
-    tie.close (tie.spec take-bytes-requires returns refuse-due-requires empty-requires returns-2)
+    tie.close (tie.spec take-bytes-requires returns malformed-requires empty-requires returns-2)
