@@ -252,3 +252,33 @@ unfolding configOf readOn
 config-of-calls ps =
     ap answerOf (read-portions freshReader ps (empty-holds CrLf lineLimit (omega arith)))
     ∙ sym (lines-read 0 1 0 (linesOf CrLf (joined ps)) refl (omega arith))
+
+-- ---- after a refusal nothing that follows changes the answer, so that nothing more need be read
+
+kept-if : (t : Bool) (q : Reading) → (q .refusal ≡ 0 → ⊥) → malformedIf t q ≡ q
+unfolding malformedIf
+kept-if true q h = rw (ne-eqb (q .refusal) 0 h)
+kept-if false q h = refl
+
+refused-taken : (r : Reader) (s : List ℕ) → (r .reading .refusal ≡ 0 → ⊥) → takeAnswer r s .reading ≡ r .reading
+unfolding takenIf taken malformedIf
+refused-taken r s h = by-room (ltb (r .cutter .count) lineLimit)
+  where
+    by-room : (t : Bool) → takenIf t r s .reading ≡ r .reading
+    by-room true =
+        let x = cutPortion r s in
+        ap (malformedIf (x .tooLong)) (refused-stays (r .reading) (x .lines) (omega (arith, h))) ∙ kept-if (x .tooLong) (r .reading) h
+    by-room false = kept-if true (r .reading) h
+
+all-refused : (r : Reader) (ps : List (List ℕ)) → (r .reading .refusal ≡ 0 → ⊥) → takenAll r ps .reading ≡ r .reading
+all-refused r [] h = refl
+all-refused r (p ∷ ps) h =
+    let here = refused-taken r p h in
+    all-refused (takeAnswer r p) ps (λ e. h (sym (ap (λ (q : Reading). q .refusal) here) ∙ e)) ∙ here
+
+pub refused-for-good : (r : Reader) (ps : List (List ℕ)) → (r .reading .refusal ≡ 0 → ⊥) → endAnswer (takenAll r ps) ≡ endAnswer r
+refused-for-good r ps h =
+    let all = all-refused r ps h in
+    let still : takenAll r ps .reading .refusal ≡ 0 → ⊥ = λ e. h (sym (ap (λ (q : Reading). q .refusal) all) ∙ e) in
+    ap answerOf
+    (kept-if (ltb 0 (takenAll r ps .cutter .count)) (takenAll r ps .reading) still ∙ all ∙ sym (kept-if (ltb 0 (r .cutter .count)) (r .reading) h))

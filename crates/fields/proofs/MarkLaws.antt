@@ -69,6 +69,15 @@ module _ (m n : ℕ) where
       by-mark true h = sym (lt-ltb 0 (suc (length s)) (omega arith))
       by-mark false h = h ∙ sym (suc-ltb (length (before m n s)) (length s))
 
+  pub after-none : (s : List ℕ) → has m n s ≡ false → after m n s ≡ []
+  unfolding has after
+  after-none [] h = refl
+  after-none (b ∷ s) h = by-mark (isMark m n b) h (after-none s)
+    where
+      by-mark : (t : Bool) → t || has m n s ≡ false → (has m n s ≡ false → after m n s ≡ []) → cond t s (after m n s) ≡ []
+      by-mark true e more = absurd (false≢true (sym e))
+      by-mark false e more = more e
+
   module _ (s : List ℕ) (i : ℕ) (k : i < length s) where
     pub mark-here : isMark m n (getD s i 0) ≡ true → length (before m n (drop i s)) ≡ 0
     unfolding before

@@ -12,11 +12,12 @@ use Rattle.checks.specs.Range.{inRange}
 use Rattle.checks.proofs.Cases.{same-test}
 use Rattle.checks.proofs.Tests.{both-true, below-range}
 use Rattle.text.specs.Number.{allDigits, leading, valueOf}
-use Rattle.text.proofs.DigitLaws.{all-leading, leading-all, value-nothing}
+use Rattle.text.proofs.DigitLaws.{all-digits-nil, all-leading, leading-all, value-nothing}
+use Rattle.text.proofs.ValueLaws.{whole-worth}
 use Rattle.fields.specs.Marks.{has, before, after, beginsWith}
-use Rattle.fields.specs.Number.{isWhole, minus, point, signFits, someDigits, isOfValue, isNothing, wholeThen, optionally}
+use Rattle.fields.specs.Number.{isWhole, minus, point, signFits, someDigits, isOfValue, isNothing, wholeThen, optionally, isUnsignedDecimal}
 use Rattle.fields.specs.device.Calls.{MarkFound, wholeLead, WholeLeads, largeValue}
-use Rattle.fields.proofs.MarkLaws.{front, rest as m-rest, marked, markless, nothing-after, after-dropped}
+use Rattle.fields.proofs.MarkLaws.{front, rest as m-rest, marked, markless, nothing-after, after-none, after-dropped}
 
 -- ---- a whole number
 
@@ -144,17 +145,30 @@ module _ (m n : ℕ) (first rest : List ℕ → Bool) (s : List ℕ) (r : ℕ) (
 
 -- ---- the value of a decimal without its sign
 
-module _ (v : ℕ) (s : List ℕ) (h : v < largeValue) (r : ℕ) (found : MarkFound point point s r) (w : ℕ) (e : w ≡ min (valueOf (take r s)) largeValue) where
-  whole-value : eqb (valueOf (before point point s)) v ≡ eqb w v
-  whole-value = same-capped (valueOf (before point point s)) v h ∙ rw (e, front point point s r found)
+decimal-digits : (s : List ℕ) → isUnsignedDecimal s ≡ true → allDigits (after point point s) ≡ true
+decimal-digits s h = by-point (has point point s) refl (both-true (someDigits (before point point s)) _ h .1)
+  where
+    by-point : (t : Bool) → has point point s ≡ t → cond t (someDigits (after point point s)) true ≡ true → allDigits (after point point s) ≡ true
+    by-point true e k = both-true (leb 1 (length (after point point s))) (allDigits (after point point s)) k .1
+    by-point false e k = rw (after-none point point s e, all-digits-nil)
+
+module _ (v : ℕ) (s : List ℕ) (asked : (isUnsignedDecimal s ≡ true) × (v < largeValue)) (r : ℕ) (found : MarkFound point point s r) (w : ℕ)
+    (e : w ≡ min (valueOf (take r s)) largeValue) where
+  by-parts-of : isOfValue v s ≡ eqb w v && eqb (valueOf (after point point s)) 0
+  by-parts-of =
+      let front-value : eqb (valueOf (before point point s)) v ≡ eqb w v =
+      same-capped (valueOf (before point point s)) v (asked .1) ∙ rw (e, front point point s r found) in
+      whole-worth (before point point s) (after point point s) v (decimal-digits s (asked .0)) ∙ rw front-value
 
   pub other-value : (w ≡ v → ⊥) → false ≡ isOfValue v s
-  other-value n = sym (rw (whole-value, ne-eqb w v n))
+  other-value n = sym (by-parts-of ∙ rw (ne-eqb w v n))
 
   module _ (same : w ≡ v) where
     pub value-alone : r ≡ length s → true ≡ isOfValue v s
-    value-alone end = sym (rw (whole-value, eq-eqb w v same, nothing-after point point s r found end, value-nothing))
+    value-alone end = sym (by-parts-of ∙ rw (eq-eqb w v same, nothing-after point point s r found end, value-nothing))
 
     pub value-and-nothing : (d : ℕ) → d ≡ min (valueOf (drop (r + 1) s)) largeValue → eqb d 0 ≡ isOfValue v s
     value-and-nothing d k =
-        sym (rw (whole-value, eq-eqb w v same, ← m-rest point point s r found) (same-capped (valueOf (drop (r + 1) s)) 0 (omega arith) ∙ rw k))
+        let behind : eqb (valueOf (after point point s)) 0 ≡ eqb d 0 =
+        rw (← m-rest point point s r found) (same-capped (valueOf (drop (r + 1) s)) 0 (omega arith) ∙ rw k) in
+        sym (by-parts-of ∙ rw (eq-eqb w v same) behind)

@@ -1,7 +1,7 @@
 -- Whole numbers, decimals and numbers with an exponent (02, E4; the words quoted are those of docs/DECISIONS.md, 80 to 87).
 use mathlib.Core.Bool.{Bool, true, cond, _&&_, _||_}
-use mathlib.Core.List.{List}
-use Prim.Native.Nat.{ℕ}
+use mathlib.Core.List.{List, _++_}
+use Prim.Native.Nat.{ℕ, _*_, _^_}
 use lib.Dec.{leb, eqb}
 use lib.ListN.{length}
 use Rattle.checks.specs.Range.{inRange}
@@ -67,9 +67,9 @@ isUnsignedDecimal s = optionally point point someDigits someDigits s
 abbrev pub isDecimal : List ℕ → Bool
 isDecimal s = isUnsignedDecimal (unsigned s)
 
--- of a whole value: the digits before the point give it, and those after it give nothing
+-- of a whole value: all its digits, as one number, are that value times ten for each digit after the point
 abbrev pub isOfValue : ℕ → List ℕ → Bool
-isOfValue v s = eqb (valueOf (before point point s)) v && eqb (valueOf (after point point s)) 0
+isOfValue v s = eqb (valueOf (before point point s ++ after point point s)) (v * 10 ^ length (after point point s))
 
 -- only 0 may have a minus
 abbrev pub signFits : ℕ → List ℕ → Bool

@@ -1,5 +1,6 @@
 // Whole numbers, decimals and numbers with an exponent.
 ghost use mathlib.Core.Path.{_≡_};
+ghost use mathlib.Core.Bool.{true};
 ghost use Prim.Native.Nat.{_-_, _≤_, _<_, min};
 ghost use Rattle.text.specs.Number.{valueOf, digitLimit};
 ghost use Rattle.fields.specs.Number.{isWhole, isChannels, isExtreme, someDigits, isExponent, isUnsignedDecimal, isDecimal};
@@ -136,7 +137,7 @@ fn is_decimal(s: &[u8]) -> bool
 
 // Whether a decimal without its sign has this value.
 fn is_of_value(s: &[u8], v: u64) -> bool
-    requires { ⌜ v < largeValue ⌝ }
+    requires { ⌜ (isUnsignedDecimal (now s) ≡ true) × (v < largeValue) ⌝ }
     ensures { λ r. ⌜ r ≡ isOfValue v (now (s .entry)) ⌝ }
 {
     let n = until(s, b'.', b'.');

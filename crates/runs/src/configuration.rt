@@ -3,7 +3,7 @@ use config::ConfigRead;
 use config::Reader;
 ghost use Rattle.runs.specs.Configuration.{ReaderReached, ConfigReached};
 
-// To the end of the file, or to a refusal: what follows would change nothing. A file that cannot be read is taken as empty.
+// To the end of the file, or to a refusal, after which nothing changes the answer. A file that cannot be read is taken as empty.
 fn read_file(fd: i32, path: &[u8], portion: &mut [u8]) -> Reader
     ensures { λ r. ⌜ ReaderReached r ⌝ }
 {

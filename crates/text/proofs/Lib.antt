@@ -2,6 +2,7 @@ pub mod StoreLaws
 pub mod ByteLaws
 pub mod DigitLaws
 pub mod DecimalLaws
+pub mod ValueLaws
 pub mod LackLaws
 pub mod ScanLaws
 pub mod ShapeLaws

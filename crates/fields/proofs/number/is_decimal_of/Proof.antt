@@ -4,7 +4,7 @@ use mathlib.Core.Path.{sym, ap, _∙_}
 use native.Mathlib.Omega.{arith}
 use lib.ListN.{length}
 use borrow.Author.Tests.{not-true, not-false, le-leb, lt-leb}
-use Rattle.fields.specs.Number.{longestNumber, isOfValue}
+use Rattle.fields.specs.Number.{longestNumber, isUnsignedDecimal, isOfValue}
 use Rattle.fields.proofs.MarkLaws.{tail-part, refused-first, passed-first}
 use borrow.Author.Needs.{needs}
 use Rattle.fields.proofs.number.is_decimal_of.Statement.{statement}
@@ -43,7 +43,10 @@ part-is-of-value-end : tie.Need-part-is-of-value-end
 part-is-of-value-end c = search needs
 
 is-of-value-requires : tie.Need-is-of-value-requires
-is-of-value-requires c κs = search needs
+is-of-value-requires c κs =
+    let a = c .before .before .before .before .before .before .before .before .args in
+    let unsigned = tail-part (a .s .now) (c .before .mark-length .result) ∙ c .before .mark-length .ensures .left in
+    (ap isUnsignedDecimal unsigned ∙ sym (c .before .before .before .is-decimal .ensures) ∙ not-false _ (c .before .before .if3 .left), c .before .before .before .before .before .before .before .before .pre)
 
 returns-4 : tie.Need-returns-4
 returns-4 c =
