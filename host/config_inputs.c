@@ -57,9 +57,10 @@ static void know_refused(int line)
             refusals[line - 1]);
 }
 
-/* What a replay of recording.csv ends with, if its configuration has this last sample number. */
+/* The rows of recording.csv. */
 enum { ROWS = 3 };
 
+/* What its replay ends with, if its configuration has this last sample number. */
 static void know_accepted(uint64_t last)
 {
     know_end(ROWS, last == ROWS ? 0 : 28);
@@ -410,7 +411,7 @@ static void other_bytes(int line, int field)
         keep("byte_before");
         add_with_bytes(line, field, length, 0, byte, 1);
         keep("byte_after");
-        if (*byte == ' ' && !is_text(line, field) && length > 0)
+        if (*byte == ' ' && !is_text(line, field))
             know_refused(line + 1);
     }
     add_with_bytes(line, field, length, 0, "\r\n", 2);

@@ -173,7 +173,7 @@ static bool field_is(char letter, const char *field)
     }
 }
 
-/* The line from here "to and with the next CR LF, or to the end of the file". */
+/* The line from here, to and with the next CR LF or to the end of the file. */
 static size_t line_length(const char *bytes, size_t count)
 {
     for (size_t i = 1; i < count; i++)

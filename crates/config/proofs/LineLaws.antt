@@ -67,7 +67,7 @@ none-left [] = refl
 none-left (k ∷ ks) = sym (ne-eqb (suc (length ks)) 0 (λ e. omega arith))
 
 -- a text always has a field more
-pub field-too-many : (s : List ℕ) → fitAll [] (fieldsIn s) ≡ false
+field-too-many : (s : List ℕ) → fitAll [] (fieldsIn s) ≡ false
 unfolding fitAll
 field-too-many s = ap (fitAll []) (fields-split s) ∙ some-by (has comma comma s)
   where
@@ -174,7 +174,7 @@ module _ (s : List ℕ) (first count : ℕ) where
       record { begins = omega arith; few = omega arith; same = rw (none, add-zero first) }
 
   module _ (at k : ℕ) (turn : FieldsTurn at k) where
-    -- a text always has a field more
+    -- the shape's fields are over, and the text has one more
     pub turn-over : count ≤ k → false ≡ fitAll (take count (drop first allFields)) (fieldsIn s)
     turn-over l =
         let none : count - k ≡ 0 = omega (arith, l) in

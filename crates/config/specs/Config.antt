@@ -1,5 +1,5 @@
--- A configuration file: what its lines give (02, E4; the words quoted are those of docs/DECISIONS.md, 77 and 78). The law `config-of-calls` says that reading it by portions gives this,
--- however the file is cut.
+-- A configuration file: what its lines give (02, E4; the words quoted are those of docs/DECISIONS.md, 77 and 78). The law
+-- `config-of-calls` says that reading it by portions gives this, however the file is cut.
 use mathlib.Core.Bool.{cond}
 use mathlib.Core.List.{List, [], _∷_}
 use Prim.Native.Nat.{ℕ, _+_, _-_}

@@ -37,7 +37,7 @@ passed-first a b r e f = f ∙ sym (rw e)
 -- ---- what stands before the first mark, and after it
 
 module _ (m n : ℕ) where
-  pub before-taken : (s : List ℕ) → take (length (before m n s)) s ≡ before m n s
+  before-taken : (s : List ℕ) → take (length (before m n s)) s ≡ before m n s
   unfolding before
   before-taken [] = refl
   before-taken (b ∷ s) =
@@ -53,14 +53,14 @@ module _ (m n : ℕ) where
       dropped-by true h = refl
       dropped-by false h = rw add-one at h
 
-  pub before-short : (s : List ℕ) → length (before m n s) ≤ length s
+  before-short : (s : List ℕ) → length (before m n s) ≤ length s
   unfolding before
   before-short [] = omega arith
   before-short (b ∷ s) =
       by-cond (λ (l : List ℕ). length l ≤ suc (length s)) (isMark m n b) [] (b ∷ before m n s)
       (λ e. omega arith) (λ e. omega (arith, before-short s))
 
-  pub has-mark : (s : List ℕ) → has m n s ≡ ltb (length (before m n s)) (length s)
+  has-mark : (s : List ℕ) → has m n s ≡ ltb (length (before m n s)) (length s)
   unfolding has before
   has-mark [] = refl
   has-mark (b ∷ s) = by-mark (isMark m n b) (has-mark s)
@@ -110,9 +110,6 @@ module _ (m n : ℕ) (s : List ℕ) (r : ℕ) (found : MarkFound m n s r) where
     nothing-after =
         let past : length s ≤ r + 1 = omega (arith, end) in
         sym rest ∙ drop-of-length-le s past
-
-    pub all-before : before m n s ≡ s
-    all-before = sym front ∙ ap (λ (k : ℕ). take k s) end ∙ take-length s
 
 pub part-length : (s : List ℕ) (n : ℕ) → n ≤ length s → n ≡ length (take n s)
 part-length s n h = rw length-take (omega (arith, h))

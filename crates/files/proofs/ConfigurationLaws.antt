@@ -152,7 +152,7 @@ ended-under : (c : Configuration) → afterSettings c ≡ Running → (s : List 
 unfolding toldOf
 ended-under c runs s = ap notesAndEnd (by-under Changes c runs (freshProgress Absent) (linesOf CrLf s))
 
-pub replay-ends : (s : List ℕ) → replayOf s ≡ endedWith s (refusalOf s)
+replay-ends : (s : List ℕ) → replayOf s ≡ endedWith s (refusalOf s)
 replay-ends s = ended-under Absent refl s
 
 module _ (c s : List ℕ) (last : ℕ) (q : configOf c ≡ Accepted last) where

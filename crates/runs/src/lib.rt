@@ -1,5 +1,5 @@
-// A replay of standard input, which the programs share: portion by portion to standard output, in a form; the configuration that a
-// file holds; and why an input was refused, on standard error.
+// A replay of standard input, which the programs share: portion by portion to standard output, in a form; the configuration that
+// a file holds; and why an input was refused, on standard error.
 mod configuration;
 mod portions;
 mod refusal;

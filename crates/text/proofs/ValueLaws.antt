@@ -60,8 +60,8 @@ module _ (x v y p : ℕ) (small : y < p) (e : x * p + y ≡ v * p) where
   nothing-behind : y ≡ 0
   nothing-behind = let front = ap (λ (k : ℕ). k * p) same-front in omega (arith, front, e)
 
--- WHAT A DECIMAL IS WORTH: all its digits are a whole number times ten for each digit after the point exactly where those before it
--- give that number, and those after it give 0
+-- WHAT A DECIMAL IS WORTH: all its digits are a whole number times ten for each digit after the point exactly where those before
+-- it give that number, and those after it give 0
 pub whole-worth : (w d : List ℕ) (v : ℕ) → allDigits d ≡ true → eqb (valueOf (w ++ d)) (v * 10 ^ length d) ≡ eqb (valueOf w) v && eqb (valueOf d) 0
 whole-worth w d v h =
     let p : ℕ = 10 ^ length d in
