@@ -3,8 +3,8 @@
  *   config_inputs FOLDER
  * writes there NUMBER_LABEL.cfg for each; the recording to replay with it, NUMBER_LABEL.csv, or
  * recording.csv where it has none of its own; and the list `known`: of the answers that follow from
- * how an input was made, without a reader, the end line and what is said of a refused line. Always
- * the same inputs: chances come from a fixed seed.
+ * how an input was made, without a reader, the end line and what is said of a refusal. Always the
+ * same inputs: chances come from a fixed seed.
  */
 #include "inputs.h"
 
@@ -53,8 +53,16 @@ static const int refusals[] = {18, 19, 20, 20, 20, 21, 22, 23, 24, 25, 25, 26, 2
 static void know_refused(int line)
 {
     know_end(0, refusals[line - 1]);
-    fprintf(known, "%s.config.said:line %d of the configuration is refused with %d\n", name, line,
+    fprintf(known, "%s.config.said:line %d of the configuration: refused %d: \n", name, line,
             refusals[line - 1]);
+}
+
+/* Its last sample number is, or is not, the rows done. */
+static void know_done(int rows, bool right)
+{
+    know_end(rows, right ? 0 : 28);
+    if (!right)
+        fprintf(known, "%s.config.said:recording: refused 28: \n", name);
 }
 
 /* The rows of recording.csv. */
@@ -63,7 +71,7 @@ enum { ROWS = 3 };
 /* What its replay ends with, if its configuration has this last sample number. */
 static void know_accepted(uint64_t last)
 {
-    know_end(ROWS, last == ROWS ? 0 : 28);
+    know_done(ROWS, last == ROWS);
 }
 
 /* ---- A right configuration ---- */
@@ -754,50 +762,69 @@ static void add_recording(const char *settings, int count, const char *after)
     add(after);
 }
 
-/* Rows done and the refusal that they end with; of the settings line, where no row was looked at. */
+#define STRAY "neither a digit nor a comma"
+#define LF_ENDS "; the file seems to have LF line ends, where CR LF is due"
+
+/*
+ * Rows done and the refusal that they end with; of the settings line, where no row was looked at.
+ * What is said of it, if it has a place.
+ */
 static const struct recording {
     const char *settings;
     int rows;
     const char *after;
     bool settings_right;
     int refusal;
+    const char *place;
 } recordings[] = {
-    {"1,200,100,40,40,60,0\r\n", 3, "", true, 0},
-    {"1,200,100,40,40,60,0\r\n", 0, "", true, 0},
-    {"1,200,100,40,40,60,0\r\n", 2, "", true, 0},
-    {"1,200,100,40,40,60,0\r\n", 4, "", true, 0},
-    {"1,200,100,40,40,60,0\r\n", 0, "x", true, 12},
-    {"1,200,100,40,40,60,0\r\n", 3, "x", true, 12},
-    {"1,200,100,40,40,60,0\r\n", 3, "\r\n", true, 12},
-    {"1,200,100,40,40,60,0\r\n", 2, "3,0,0,0,0,0\n", true, 12},
-    {"1,200,100,40,40,60,0\r\n", 3, "3,0,0,0,0,0\r\n", true, 13},
-    {"1,200,100,40,40,60,0\r\n", 2, "4,0,0,0,0,2\r\n", true, 13},
-    {"1,200,100,40,40,60,0\r\n", 3, "4,0,0,0,0,2\r\n", true, 14},
-    {"1,200,100,40,40,60,0\r\n", 2, "3,0,0,0,0,9\r\n4,0,0,0,0,0\r\n", true, 14},
-    {"", 0, "", false, 12},
-    {"1,200,100,40,40,60,0\n", 3, "", false, 12},
-    {"1,200,100,40,40,60,0", 0, "", false, 12},
-    {"", 3, "", false, 12},
-    {"13,200,100,40,40,60,0\r\n", 3, "", false, 1},
-    {"1,9,100,40,40,60,0\r\n", 3, "", false, 2},
-    {"1,200,4,40,40,60,0\r\n", 3, "", false, 3},
-    {"1,200,100,39,40,60,0\r\n", 3, "", false, 4},
-    {"1,200,100,40,39,60,0\r\n", 3, "", false, 5},
-    {"1,200,100,40,40,59,0\r\n", 3, "", false, 6},
-    {"1,200,100,40,40,60,2\r\n", 3, "x", false, 7},
+    {"1,200,100,40,40,60,0\r\n", 3, "", true, 0, ""},
+    {"1,200,100,40,40,60,0\r\n", 0, "", true, 0, ""},
+    {"1,200,100,40,40,60,0\r\n", 2, "", true, 0, ""},
+    {"1,200,100,40,40,60,0\r\n", 4, "", true, 0, ""},
+    {"1,200,100,40,40,60,0\r\n", 0, "x", true, 31, "byte 0, field 1: " STRAY},
+    {"1,200,100,40,40,60,0\r\n", 3, "x", true, 31, "byte 0, field 1: " STRAY},
+    {"1,200,100,40,40,60,0\r\n", 3, "\r\n", true, 29, "byte 0, field 1: no digit in the field"},
+    {"1,200,100,40,40,60,0\r\n", 2, "3,0,0,0,0,0\n", true, 31, "byte 11, field 6: " STRAY LF_ENDS},
+    {"1,200,100,40,40,60,0\r\n", 3, "3,0,0,0,0,0\r\n", true, 13, ""},
+    {"1,200,100,40,40,60,0\r\n", 2, "4,0,0,0,0,2\r\n", true, 13, ""},
+    {"1,200,100,40,40,60,0\r\n", 3, "4,0,0,0,0,2\r\n", true, 14, ""},
+    {"1,200,100,40,40,60,0\r\n", 2, "3,0,0,0,0,9\r\n4,0,0,0,0,0\r\n", true, 14, ""},
+    {"", 0, "", false, 29, "byte 0, field 1: no digit in the field"},
+    {"1,200,100,40,40,60,0\n", 3, "", false, 31, "byte 20, field 7: " STRAY LF_ENDS},
+    {"1,200,100,40,40,60,0", 0, "", false, 33, "byte 20, field 7: CR LF is missing, or bytes follow it"},
+    {"", 3, "", false, 32, "byte 15, field 6: too few or too many fields"},
+    {"13,200,100,40,40,60,0\r\n", 3, "", false, 1, ""},
+    {"1,9,100,40,40,60,0\r\n", 3, "", false, 2, ""},
+    {"1,200,4,40,40,60,0\r\n", 3, "", false, 3, ""},
+    {"1,200,100,39,40,60,0\r\n", 3, "", false, 4, ""},
+    {"1,200,100,40,39,60,0\r\n", 3, "", false, 5, ""},
+    {"1,200,100,40,40,59,0\r\n", 3, "", false, 6, ""},
+    {"1,200,100,40,40,60,2\r\n", 3, "x", false, 7, ""},
 };
+
+static void know_refused_recording(const struct recording *recording)
+{
+    int done = recording->settings_right ? recording->rows : 0;
+    know_end(done, recording->refusal);
+    fprintf(known, "%s.config.said:", name);
+    if (recording->settings_right)
+        fprintf(known, "row %d", done + 1);
+    else
+        fputs("settings line", known);
+    fprintf(known, ": refused %d: %s\n", recording->refusal, recording->place);
+}
 
 /* The settings line goes first, then the configuration, then the rows, and 28 comes last of all. */
 static void know_in_order(const struct recording *recording, int wrong_line, uint64_t last)
 {
     if (!recording->settings_right)
-        know_end(0, recording->refusal);
+        know_refused_recording(recording);
     else if (wrong_line > 0)
         know_refused(wrong_line);
-    else if (recording->refusal != 0 || (uint64_t)recording->rows == last)
-        know_end(recording->rows, recording->refusal);
+    else if (recording->refusal != 0)
+        know_refused_recording(recording);
     else
-        know_end(recording->rows, 28);
+        know_done(recording->rows, (uint64_t)recording->rows == last);
 }
 
 static void with_recordings(int wrong_line, uint64_t last)
@@ -845,7 +872,7 @@ static void longer_recordings(void)
                 snprintf(digits, sizeof digits, "%0*d", width, counts[i] + off);
                 fields[8][1] = digits;
                 keep_lines("longer_recording");
-                know_end(counts[i], off == 0 ? 0 : 28);
+                know_done(counts[i], off == 0);
                 add(recordings[0].settings);
                 for (int row = 1; row <= counts[i]; row++) {
                     add_number((uint64_t)row, 1);

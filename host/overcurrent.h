@@ -45,9 +45,9 @@ enum oc_operation {
  * Refusal numbers. Where several apply to a call, the lowest is given.
  *
  * oc_check_settings gives 0 to 7; oc_batch gives any of these. The other
- * numbers, 9, 12, 13, 15, the record's 16 and 17 and the configuration's 18 to
- * 28, belong to calls that the archive does not export; docs/FORMATS.md has them
- * all.
+ * numbers, 9, 13, 15, the record's 16 and 17, the configuration's 18 to 28 and
+ * the bench's 29 to 33, for a line of wrong shape, belong to calls that the
+ * archive does not export; 12 is retired. docs/FORMATS.md has them all.
  */
 enum oc_refusal {
     OC_ACCEPTED = 0,

@@ -1,6 +1,8 @@
 /*
  * Inputs for host/replay_check.
- *   replay_inputs small FOLDER              writes the small inputs there, a file each
+ *   replay_inputs small FOLDER              writes the small inputs there, a file each, and the list
+ *                                           `known`: where it follows from how an input was made, the
+ *                                           end line of its replay and what is said of the refusal
  *   replay_inputs rows LOAD OPERATION ROWS  writes one long recording to standard output
  *   replay_inputs feed BYTES                copies standard input to a pipe, BYTES at a time
  * Always the same inputs: chances come from a fixed seed.
@@ -20,14 +22,104 @@
 enum { PORTION = 64 * 1024 };
 
 static const char *folder;
-static int kept;
+static FILE *known;
+static char name[64];
 
-/* Files what was added as an input of its own, and starts the next. */
+/* ---- Faults of shape ---- */
+
+enum { NO_DIGIT = 29, DIGIT_TOO_MANY = 30, STRAY_BYTE = 31, WRONG_COUNT = 32, WRONG_END = 33 };
+
+static const char *const fault_words[] = {"no digit in the field", "a digit too many",
+                                          "neither a digit nor a comma",
+                                          "too few or too many fields",
+                                          "CR LF is missing, or bytes follow it"};
+
+/* The fault that is told of the input being added, if it is known; row 0 is the settings line. */
+static struct {
+    unsigned refusal; /* 0: not known */
+    unsigned row, field;
+    size_t line, byte;
+} fault;
+
+/*
+ * The next byte, or the end, is a fault. All before it is right, but for an earlier fault, which is
+ * then told: so each LF before it closes a line.
+ */
+static void fault_here(unsigned refusal)
+{
+    if (fault.refusal != 0)
+        return;
+    fault.refusal = refusal;
+    fault.row = 0;
+    fault.field = 1;
+    fault.line = 0;
+    for (size_t i = 0; i < used; i++)
+        if (text[i] == '\n') {
+            fault.row++;
+            fault.field = 1;
+            fault.line = i + 1;
+        } else if (text[i] == ',') {
+            fault.field++;
+        }
+    fault.byte = used - fault.line;
+}
+
+static bool is_digit(char byte)
+{
+    return '0' <= byte && byte <= '9';
+}
+
+static const char *fault_hint(void)
+{
+    const char *line = text + fault.line;
+    unsigned last_field = fault.row == 0 ? 7 : 6;
+    if (fault.refusal != STRAY_BYTE)
+        return "";
+    if (line[fault.byte] == '\n' && fault.field == last_field && is_digit(line[fault.byte - 1]))
+        return "; the file seems to have LF line ends, where CR LF is due";
+    if (used - fault.line >= 3 && memcmp(line, "\xef\xbb\xbf", 3) == 0)
+        return "; the line begins with a byte order mark";
+    return "";
+}
+
+static void know_fault(void)
+{
+    fprintf(known, "%s.replay:end,%u,%u\n", name, fault.row - (fault.row > 0), fault.refusal);
+    fprintf(known, "%s.replay.said:", name);
+    if (fault.row == 0)
+        fputs("settings line", known);
+    else
+        fprintf(known, "row %u", fault.row);
+    fprintf(known, ": refused %u: byte %zu, field %u: %s%s\n", fault.refusal, fault.byte,
+            fault.field, fault_words[fault.refusal - NO_DIGIT], fault_hint());
+}
+
+/* Files what was added as an input of its own, with its fault, and starts the next. */
 static void keep(const char *label)
 {
+    static int kept;
     char path[4096];
-    snprintf(path, sizeof path, "%s/%05d_%s", folder, ++kept, label);
+    snprintf(name, sizeof name, "%05d_%s", ++kept, label);
+    snprintf(path, sizeof path, "%s/%s", folder, name);
+    if (fault.refusal != 0)
+        know_fault();
+    fault.refusal = 0;
     write_input(path);
+}
+
+/* Bytes with a fault at one of them or right after them; refusal 0 where none is known. */
+struct hurt {
+    const char *bytes;
+    unsigned refusal;
+    size_t at;
+};
+
+static void add_hurt(struct hurt hurt)
+{
+    add_bytes(hurt.bytes, hurt.at);
+    if (hurt.refusal != 0)
+        fault_here(hurt.refusal);
+    add(hurt.bytes + hurt.at);
 }
 
 /* ---- A short recording, whole and hurt ---- */
@@ -42,30 +134,64 @@ static const char short_recording[] = "1,200,100,40,40,60,0\r\n"
 
 enum { SHORT = sizeof short_recording - 1 };
 
+static bool after(char byte)
+{
+    return used > 0 && text[used - 1] == byte;
+}
+
+/* A recording that is right so far ends here; at the end of a line that is no fault. */
+static void cut_here(void)
+{
+    if (after('\n'))
+        return;
+    if (used == 0 || after(',')) {
+        fault_here(NO_DIGIT);
+        return;
+    }
+    fault_here(WRONG_END);
+    if (!after('\r') && fault.field < (fault.row == 0 ? 7 : 6))
+        fault.refusal = WRONG_COUNT;
+}
+
 static void prefixes(void)
 {
     for (size_t i = 0; i <= SHORT; i++) {
         add_bytes(short_recording, i);
+        cut_here();
         keep("prefix");
     }
 }
 
-/* A digit, the bytes that end fields and lines, the neighbours of the digits, and a byte that is no letter. */
-static const char strange[] = {'0', ',', '\r', '\n', '/', ':', (char)0xb1};
+/*
+ * A digit, the bytes that end fields and lines, the neighbours of the digits, a byte that is no
+ * letter, and the one that ends a string.
+ */
+static const char strange[] = {'0', ',', '\r', '\n', '/', ':', (char)0xb1, '\0'};
+
+/* Adds a byte to a recording that is right so far: a fault, unless it may be right there. */
+static void add_strange(char byte)
+{
+    bool digit = is_digit(byte), lf_due = byte == '\n' && after('\r');
+    if (!digit && byte != ',' && byte != '\r' && !lf_due)
+        fault_here(after('\r') ? WRONG_END : STRAY_BYTE);
+    add_bytes(&byte, 1);
+}
 
 static void one_byte_hurt(void)
 {
     for (size_t i = 0; i < SHORT; i++) {
         add_bytes(short_recording, i);
+        if (short_recording[i] == '\r' || short_recording[i] == '\n')
+            fault_here(short_recording[i] == '\r' ? STRAY_BYTE : WRONG_END);
         add_bytes(short_recording + i + 1, SHORT - i - 1);
         keep("deleted");
         for (size_t j = 0; j < sizeof strange; j++) {
             add_bytes(short_recording, i);
-            add_bytes(&strange[j], 1);
+            add_strange(strange[j]);
             add_bytes(short_recording + i, SHORT - i);
             keep("inserted");
             add_bytes(short_recording, i);
-            add_bytes(&strange[j], 1);
+            add_strange(strange[j]);
             add_bytes(short_recording + i + 1, SHORT - i - 1);
             keep("replaced");
         }
@@ -79,14 +205,19 @@ static const struct range {
 } ranges[7] = {{0, 12, 1},       {10, 3000, 200},  {5, 1500, 100}, {40, 60000, 40},
                {40, 60000, 40}, {60, 60000, 60}, {0, 1, 0}};
 
-/* The settings line with these fields, and a row that starts L1. */
-static void settings_case(char fields[7][16], const char *label)
+static const char starting_row[] = "1,0,9999999,0,0,0\r\n";
+
+/* The settings line with these fields, one of which may be hurt, and a row that starts L1. */
+static void settings_case(char fields[7][16], const struct hurt *hurt, int field, const char *label)
 {
     for (int i = 0; i < 7; i++) {
-        add(fields[i]);
+        if (hurt != NULL && i == field)
+            add_hurt(*hurt);
+        else
+            add(fields[i]);
         add(i < 6 ? "," : "\r\n");
     }
-    add("1,0,9999999,0,0,0\r\n");
+    add(starting_row);
     keep(label);
 }
 
@@ -98,8 +229,12 @@ static void good_fields(char fields[7][16])
 
 static void settings_at_their_limits(void)
 {
-    static const char *const shapes[] = {"", "000000", "100000", "99999", "00000", "65536",
-                                         "-1", "+1", " 1", "1 ", "1a", "0x1", "1.0"};
+    static const struct hurt shapes[] = {
+        {"", NO_DIGIT, 0},    {"000000", DIGIT_TOO_MANY, 5}, {"100000", DIGIT_TOO_MANY, 5},
+        {"99999", 0, 0},      {"00000", 0, 0},               {"65536", 0, 0},
+        {"-1", STRAY_BYTE, 0}, {"+1", STRAY_BYTE, 0},        {" 1", STRAY_BYTE, 0},
+        {"1 ", STRAY_BYTE, 1}, {"1a", STRAY_BYTE, 1},        {"0x1", STRAY_BYTE, 1},
+        {"1.0", STRAY_BYTE, 1}};
     char fields[7][16];
     for (int i = 0; i < 7; i++) {
         good_fields(fields);
@@ -107,43 +242,52 @@ static void settings_at_their_limits(void)
                                    ranges[i].high + 1};
         for (int j = ranges[i].low == 0 ? 1 : 0; j < 4; j++) {
             snprintf(fields[i], 16, "%u", (unsigned)values[j]);
-            settings_case(fields, "limit");
+            settings_case(fields, NULL, 0, "limit");
             snprintf(fields[i], 16, "%05u", (unsigned)values[j]);
-            settings_case(fields, "limit_zeros");
+            settings_case(fields, NULL, 0, "limit_zeros");
         }
-        for (size_t j = 0; j < sizeof shapes / sizeof shapes[0]; j++) {
-            strcpy(fields[i], shapes[j]);
-            settings_case(fields, "setting_shape");
-        }
+        for (size_t j = 0; j < sizeof shapes / sizeof shapes[0]; j++)
+            settings_case(fields, &shapes[j], i, "setting_shape");
     }
 }
 
 /* Which of the wrong settings is told, and that a wrong shape goes before them all. */
 static void settings_wrong_together(void)
 {
+    static const struct hurt letter = {"x", STRAY_BYTE, 0};
     char fields[7][16];
     for (unsigned wrong = 0; wrong < 128; wrong++) {
         good_fields(fields);
         for (int i = 0; i < 7; i++)
             if (wrong >> i & 1)
                 strcpy(fields[i], "60001");
-        settings_case(fields, "settings_wrong");
-        if (wrong != 0) {
-            strcpy(fields[6], "x");
-            settings_case(fields, "settings_wrong_shape");
-        }
+        settings_case(fields, NULL, 0, "settings_wrong");
+        if (wrong != 0)
+            settings_case(fields, &letter, 6, "settings_wrong_shape");
     }
 }
 
 static void settings_line_alone(void)
 {
-    static const char *const lines[] = {
-        "1,200,100,40,40,60,0\r\n", "1,200,100,40,40,60,0",   "1,200,100,40,40,60,0\r",
-        "1,200,100,40,40,60,0\n",   "1,200,100,40,40,60\r\n", "1,200,100,40,40,60,0,0\r\n",
-        "13,200,100,40,40,60,0",    "1,200,100,40,40,60,2\r\n", "\r\n", "\n", "\r", ",", "0",
-        ",,,,,,\r\n", "0,10,5,40,40,60,0\r\n", "\r\n1,200,100,40,40,60,0\r\n"};
+    static const struct hurt lines[] = {
+        {"1,200,100,40,40,60,0\r\n", 0, 0},
+        {"1,200,100,40,40,60,0", WRONG_END, 20},
+        {"1,200,100,40,40,60,0\r", WRONG_END, 21},
+        {"1,200,100,40,40,60,0\n", STRAY_BYTE, 20},
+        {"1,200,100,40,40,60\r\n", WRONG_COUNT, 18},
+        {"1,200,100,40,40,60,0,0\r\n", WRONG_COUNT, 20},
+        {"13,200,100,40,40,60,0", WRONG_END, 21},
+        {"1,200,100,40,40,60,2\r\n", 0, 0},
+        {"\r\n", NO_DIGIT, 0},
+        {"\n", STRAY_BYTE, 0},
+        {"\r", NO_DIGIT, 0},
+        {",", NO_DIGIT, 0},
+        {"0", WRONG_COUNT, 1},
+        {",,,,,,\r\n", NO_DIGIT, 0},
+        {"0,10,5,40,40,60,0\r\n", 0, 0},
+        {"\r\n1,200,100,40,40,60,0\r\n", NO_DIGIT, 0}};
     for (size_t i = 0; i < sizeof lines / sizeof lines[0]; i++) {
-        add(lines[i]);
+        add_hurt(lines[i]);
         keep("settings_alone");
     }
 }
@@ -154,16 +298,24 @@ static const int widths[6] = {6, 10, 7, 7, 7, 1};
 
 static const char *const good_row[6] = {"2", "1000", "20001", "30000", "0", "0"};
 
-/* Row 2 of 3 with one field replaced, and `after` in place of the comma or CR LF behind it. */
-static void row_case(int field, const char *replaced, const char *after, const char *label)
+static const char row_before[] = "1,0,20001,0,0,0\r\n", row_after[] = "3,2000,0,0,0,0\r\n";
+
+static struct hurt unhurt(const char *bytes)
+{
+    return (struct hurt){bytes, 0, 0};
+}
+
+/* Row 2 of 3 with one field replaced, and `behind` in place of the comma or CR LF behind it. */
+static void row_case(int field, struct hurt replaced, struct hurt behind, const char *label)
 {
     add(settings_line);
-    add("1,0,20001,0,0,0\r\n");
+    add(row_before);
     for (int i = 0; i < 6; i++) {
-        add(i == field ? replaced : good_row[i]);
-        add(i == field ? after : i < 5 ? "," : "\r\n");
+        struct hurt end = unhurt(i < 5 ? "," : "\r\n");
+        add_hurt(i == field ? replaced : unhurt(good_row[i]));
+        add_hurt(i == field ? behind : end);
     }
-    add("3,2000,0,0,0,0\r\n");
+    add(row_after);
     keep(label);
 }
 
@@ -173,41 +325,294 @@ static void digits(char *to, char digit, int count)
     to[count] = '\0';
 }
 
+/* In place of a field. */
+static const struct hurt odd_fields[] = {
+    {"", NO_DIGIT, 0},      {"A", STRAY_BYTE, 0},   {"2A", STRAY_BYTE, 1},
+    {"A2", STRAY_BYTE, 0},  {"1 ", STRAY_BYTE, 1},  {" 1", STRAY_BYTE, 0},
+    {"-1", STRAY_BYTE, 0},  {"+1", STRAY_BYTE, 0},  {"1.5", STRAY_BYTE, 1},
+    {"0x1", STRAY_BYTE, 1}, {"\xef\xbb\xbf" "1", STRAY_BYTE, 0}, {"\xd9\xa1", STRAY_BYTE, 0}};
+
+/* In place of what closes a field: in the last one the fault is another. */
+static const struct {
+    struct hurt early, last;
+} behinds[] = {
+    {{"", 0, 0}, {"", DIGIT_TOO_MANY, 0}}, /* the next row's number follows */
+    {{",,", NO_DIGIT, 1}, {",,", WRONG_COUNT, 0}},
+    {{";", STRAY_BYTE, 0}, {";", STRAY_BYTE, 0}},
+    {{" ,", STRAY_BYTE, 0}, {" ,", STRAY_BYTE, 0}},
+    {{", ", STRAY_BYTE, 1}, {", ", WRONG_COUNT, 0}},
+    {{"\t", STRAY_BYTE, 0}, {"\t", STRAY_BYTE, 0}},
+    {{"\r\n", WRONG_COUNT, 0}, {"\r\n", 0, 0}},
+    {{"\n", STRAY_BYTE, 0}, {"\n", STRAY_BYTE, 0}},
+    {{"\r", WRONG_COUNT, 0}, {"\r", WRONG_END, 1}},
+    {{"\n\r", STRAY_BYTE, 0}, {"\n\r", STRAY_BYTE, 0}},
+    {{"\r\r\n", WRONG_COUNT, 0}, {"\r\r\n", WRONG_END, 1}},
+    {{"\r\n\n", WRONG_COUNT, 0}, {"\r\n\n", STRAY_BYTE, 2}},
+    {{"\r\n\r\n", WRONG_COUNT, 0}, {"\r\n\r\n", NO_DIGIT, 2}},
+    {{" \r\n", STRAY_BYTE, 0}, {" \r\n", STRAY_BYTE, 0}},
+    {{"\r\nx", WRONG_COUNT, 0}, {"\r\nx", STRAY_BYTE, 2}},
+    {{"\r\n\x1a", WRONG_COUNT, 0}, {"\r\n\x1a", STRAY_BYTE, 2}},
+    {{"\r\n ", WRONG_COUNT, 0}, {"\r\n ", STRAY_BYTE, 2}},
+};
+
+/* A field of so many digits, which it may or may not have. */
+static struct hurt of_digits(const char *field, int most)
+{
+    size_t count = strlen(field), width = (size_t)most;
+    if (count == 0)
+        return (struct hurt){field, NO_DIGIT, 0};
+    return count > width ? (struct hurt){field, DIGIT_TOO_MANY, width} : unhurt(field);
+}
+
+static void fields_of_many_widths(int field, struct hurt end)
+{
+    char wide[16];
+    for (int count = widths[field] - 1; count <= widths[field] + 2; count++)
+        for (char digit = '0'; digit <= '9'; digit += 9) {
+            digits(wide, digit, count);
+            row_case(field, of_digits(wide, widths[field]), end, "width");
+            if (digit == '0' && count > 0) {
+                strcpy(wide + count - 1, good_row[field] + strlen(good_row[field]) - 1);
+                row_case(field, of_digits(wide, widths[field]), end, "zeros");
+            }
+        }
+}
+
 static void rows_with_a_hurt_field(void)
 {
-    static const char *const odd[] = {"", "A", "2A", "A2", "1 ", " 1", "-1", "+1", "1.5", "0x1",
-                                      "\xef\xbb\xbf" "1", "\xd9\xa1"};
-    static const char *const afters[] = {"", ",,", ";", " ,", ", ", "\t", "\r\n", "\n", "\r",
-                                         "\n\r", "\r\r\n", "\r\n\n", "\r\n\r\n", " \r\n",
-                                         "\r\nx", "\r\n\x1a", "\r\n "};
-    char wide[16];
     for (int i = 0; i < 6; i++) {
-        for (size_t j = 0; j < sizeof odd / sizeof odd[0]; j++)
-            row_case(i, odd[j], i < 5 ? "," : "\r\n", "field");
-        for (size_t j = 0; j < sizeof afters / sizeof afters[0]; j++)
-            row_case(i, good_row[i], afters[j], "after_field");
-        for (int count = widths[i] - 1; count <= widths[i] + 2; count++)
-            for (char digit = '0'; digit <= '9'; digit += 9) {
-                digits(wide, digit, count);
-                row_case(i, wide, i < 5 ? "," : "\r\n", "width");
-                if (digit == '0' && count > 0) {
-                    strcpy(wide + count - 1, good_row[i] + strlen(good_row[i]) - 1);
-                    row_case(i, wide, i < 5 ? "," : "\r\n", "zeros");
-                }
+        struct hurt end = unhurt(i < 5 ? "," : "\r\n");
+        for (size_t j = 0; j < sizeof odd_fields / sizeof odd_fields[0]; j++)
+            row_case(i, odd_fields[j], end, "field");
+        for (size_t j = 0; j < sizeof behinds / sizeof behinds[0]; j++)
+            row_case(i, unhurt(good_row[i]), i < 5 ? behinds[j].early : behinds[j].last,
+                     "after_field");
+        fields_of_many_widths(i, end);
+    }
+}
+
+/* ---- Every fault in every field, and with another behind it ---- */
+
+/* The settings line, or row 2 of 3: what stands before it, its fields, what comes after it. */
+static const struct form {
+    const char *before[2];
+    int fields;
+    const int *widths;
+    const char *const *good;
+    const char *after;
+} forms[] = {
+    {{"", ""},
+     7,
+     (const int[]){5, 5, 5, 5, 5, 5, 5},
+     (const char *const[]){"1", "200", "100", "40", "40", "60", "0"},
+     starting_row},
+    {{settings_line, row_before}, 6, widths, good_row, row_after},
+};
+
+enum { FORMS = sizeof forms / sizeof forms[0] };
+
+/* What stands of a field before its fault; CLOSED is its digits and CR. */
+enum part { NOTHING, DIGITS, FULL, CLOSED };
+
+/* In which fields: the early ones are all but the last. */
+enum where { ANY = 3, EARLY = 1, LAST = 2 };
+
+/* Instead of a byte: the input ends. */
+enum { END = -1 };
+
+static const struct fault_kind {
+    unsigned refusal;
+    enum part part;
+    int byte;
+    enum where where;
+} fault_kinds[] = {
+    {NO_DIGIT, NOTHING, ',', ANY},      {NO_DIGIT, NOTHING, '\r', ANY},
+    {NO_DIGIT, NOTHING, END, ANY},      {DIGIT_TOO_MANY, FULL, '0', ANY},
+    {DIGIT_TOO_MANY, FULL, '9', ANY},   {STRAY_BYTE, NOTHING, '\n', ANY},
+    {STRAY_BYTE, NOTHING, '\0', ANY},   {STRAY_BYTE, NOTHING, 0xef, ANY},
+    {STRAY_BYTE, DIGITS, '\n', ANY},    {STRAY_BYTE, DIGITS, '\0', ANY},
+    {STRAY_BYTE, DIGITS, 0x80, ANY},    {STRAY_BYTE, FULL, '\n', ANY},
+    {STRAY_BYTE, FULL, ' ', ANY},       {STRAY_BYTE, FULL, 0xff, ANY},
+    {WRONG_COUNT, DIGITS, '\r', EARLY}, {WRONG_COUNT, DIGITS, END, EARLY},
+    {WRONG_COUNT, FULL, '\r', EARLY},   {WRONG_COUNT, FULL, END, EARLY},
+    {WRONG_COUNT, DIGITS, ',', LAST},   {WRONG_COUNT, FULL, ',', LAST},
+    {WRONG_END, DIGITS, END, LAST},     {WRONG_END, FULL, END, LAST},
+    {WRONG_END, CLOSED, END, LAST},     {WRONG_END, CLOSED, '\r', LAST},
+    {WRONG_END, CLOSED, '0', LAST},     {WRONG_END, CLOSED, ',', LAST},
+    {WRONG_END, CLOSED, '\0', LAST},
+};
+
+/* What follows the faulty byte: later faults of each kind, which must not be told. */
+static const char *const rests[] = {"", "\r\n", ",,\r\n", ",0\r\n", "x\r\n", "\n", "\r\r\n",
+                                    ",99999999999\r\n", ",0,0,0,0,0,0,0\r\n",
+                                    "0000000000000000000000000000000000000000000000000\r\n"};
+
+enum { RESTS = sizeof rests / sizeof rests[0] };
+
+static void add_full(const struct form *form, int field)
+{
+    fill('0', (size_t)form->widths[field] - strlen(form->good[field]));
+    add(form->good[field]);
+}
+
+/* The line up to a place in a field. */
+static void add_line_to(const struct form *form, int field, enum part part)
+{
+    add(form->before[0]);
+    add(form->before[1]);
+    for (int i = 0; i < field; i++) {
+        add(form->good[i]);
+        add(",");
+    }
+    if (part == FULL)
+        add_full(form, field);
+    else if (part != NOTHING)
+        add(form->good[field]);
+    if (part == CLOSED)
+        add("\r");
+}
+
+static void fault_case(const struct form *form, int field, struct fault_kind kind, const char *rest)
+{
+    char byte = (char)kind.byte;
+    add_line_to(form, field, kind.part);
+    fault_here(kind.refusal);
+    if (kind.byte != END) {
+        add_bytes(&byte, 1);
+        add(rest);
+        add(form->after);
+    }
+    keep("fault");
+}
+
+/* Three of the rests each, in turn. No line at all is among the prefixes. */
+static void fault_in_field(const struct form *form, int field, enum where where)
+{
+    static size_t turn;
+    for (size_t i = 0; i < sizeof fault_kinds / sizeof fault_kinds[0]; i++) {
+        struct fault_kind kind = fault_kinds[i];
+        bool no_line = field == 0 && kind.part == NOTHING && kind.byte == END;
+        if ((kind.where & where) == 0 || no_line)
+            continue;
+        for (int j = 0; j < (kind.byte == END ? 1 : 3); j++)
+            fault_case(form, field, kind, rests[turn++ % RESTS]);
+    }
+}
+
+static void faults_in_every_field(void)
+{
+    for (int i = 0; i < FORMS; i++)
+        for (int j = 0; j < forms[i].fields; j++)
+            fault_in_field(&forms[i], j, j + 1 < forms[i].fields ? EARLY : LAST);
+}
+
+/* ---- Lines around the longest ---- */
+
+/* After as many digits as a line may have, one byte again and again: the fault is at that one of them. */
+static const struct hurt fillers[] = {{"0", DIGIT_TOO_MANY, 0}, {",", WRONG_COUNT, 0},
+                                      {"x", STRAY_BYTE, 0},     {"\n", STRAY_BYTE, 0},
+                                      {"\r", WRONG_END, 1}};
+
+/* As many bytes as a line may have before its CR LF; returns how many. */
+static size_t add_longest(const struct form *form)
+{
+    add(form->before[0]);
+    add(form->before[1]);
+    size_t line = used;
+    for (int i = 0; i < form->fields; i++) {
+        if (i > 0)
+            add(",");
+        add_full(form, i);
+    }
+    return used - line;
+}
+
+/* Named by the length of the line. */
+static void keep_line(size_t length)
+{
+    char label[32];
+    snprintf(label, sizeof label, "line_of_%d", (int)length);
+    keep(label);
+}
+
+/* Without its CR LF, and whole; returns its length without. */
+static size_t longest_line(const struct form *form)
+{
+    size_t length = add_longest(form);
+    fault_here(WRONG_END);
+    keep_line(length);
+    add_longest(form);
+    add("\r\n");
+    add(form->after);
+    keep_line(length + 2);
+    return length;
+}
+
+/* The longest line, then one byte so many times, then CR LF or the end. */
+static void long_line(const struct form *form, struct hurt filler, size_t times, bool closed)
+{
+    size_t length = add_longest(form) + times;
+    fill(filler.bytes[0], filler.at);
+    fault_here(filler.refusal);
+    fill(filler.bytes[0], times - filler.at);
+    if (closed) {
+        add("\r\n");
+        add(form->after);
+        length += 2;
+    }
+    keep_line(length);
+}
+
+/* Lines of so many bytes, with CR LF where they are closed. */
+static void long_lines(void)
+{
+    static const size_t lengths[] = {45, 46, 47, 300};
+    for (int i = 0; i < FORMS; i++) {
+        size_t longest = longest_line(&forms[i]);
+        for (size_t j = 0; j < sizeof lengths / sizeof lengths[0]; j++)
+            for (size_t k = 0; k < sizeof fillers / sizeof fillers[0]; k++) {
+                long_line(&forms[i], fillers[k], lengths[j] - longest, false);
+                if (lengths[j] > longest + 2)
+                    long_line(&forms[i], fillers[k], lengths[j] - longest - 2, true);
             }
     }
 }
 
+/* ---- Other line ends ---- */
+
+/* In every line, or in the rows alone. */
+static void line_ends(void)
+{
+    static const struct hurt ends[] = {{"\n", STRAY_BYTE, 0},   {"\r", WRONG_END, 1},
+                                       {"\n\r", STRAY_BYTE, 0}, {"\r\r\n", WRONG_END, 1},
+                                       {" \r\n", STRAY_BYTE, 0}, {",\r\n", WRONG_COUNT, 0}};
+    static const char *const lines[] = {"1,200,100,40,40,60,0", "1,0,20001,0,0,0", "2,0,0,0,0,1"};
+    for (size_t i = 0; i < sizeof ends / sizeof ends[0]; i++)
+        for (int from = 0; from < 2; from++) {
+            for (int j = 0; j < 3; j++) {
+                add(lines[j]);
+                add_hurt(j < from ? unhurt("\r\n") : ends[i]);
+            }
+            keep("line_ends");
+        }
+}
+
+/* ---- Rows that are wrong in a number ---- */
+
 static void numbers_and_blocks(void)
 {
-    static const char *const numbers[] = {"0", "1", "2", "3", "4", "000002", "0000002", "20",
-                                          "258", "65538", "999999", "1000002", ""};
+    static const struct hurt numbers[] = {
+        {"0", 0, 0},      {"1", 0, 0},      {"2", 0, 0},
+        {"3", 0, 0},      {"4", 0, 0},      {"000002", 0, 0},
+        {"0000002", DIGIT_TOO_MANY, 6},     {"20", 0, 0},
+        {"258", 0, 0},    {"65538", 0, 0},  {"999999", 0, 0},
+        {"1000002", DIGIT_TOO_MANY, 6},     {"", NO_DIGIT, 0}};
     static const char blocks[] = "0123456789";
     for (size_t i = 0; i < sizeof numbers / sizeof numbers[0]; i++)
         for (int j = 0; blocks[j] != '\0'; j++) {
             add(settings_line);
-            add("1,0,20001,0,0,0\r\n");
-            add(numbers[i]);
+            add(row_before);
+            add_hurt(numbers[i]);
             add(",9999999999,0,20001,0,");
             add_bytes(&blocks[j], 1);
             add("\r\n3,0,0,0,0,0\r\n");
@@ -224,31 +629,58 @@ static void numbers_and_blocks(void)
 /* What may stand before, between and after the lines without being seen. */
 static void strangers_between_lines(void)
 {
-    static const char *const strangers[] = {"\xef\xbb\xbf", "\x1a", "\r\n", "\n", "\r", " ", "\t",
-                                            "#\r\n", "\xff\xfe", "end,0,0\r\n", ","};
+    static const struct hurt strangers[] = {
+        {"\xef\xbb\xbf", STRAY_BYTE, 0}, {"\x1a", STRAY_BYTE, 0},
+        {"\r\n", NO_DIGIT, 0},           {"\n", STRAY_BYTE, 0},
+        {"\r", NO_DIGIT, 0},             {" ", STRAY_BYTE, 0},
+        {"\t", STRAY_BYTE, 0},           {"#\r\n", STRAY_BYTE, 0},
+        {"\xff\xfe", STRAY_BYTE, 0},     {"end,0,0\r\n", STRAY_BYTE, 0},
+        {",", NO_DIGIT, 0},              {"\xef\xbb\xbf\xef\xbb\xbf", STRAY_BYTE, 0},
+        {"\xef\xbb", STRAY_BYTE, 0},     {"\xef\xbb\xbe", STRAY_BYTE, 0}};
     static const char *const lines[] = {"1,200,100,40,40,60,0\r\n", "1,0,20001,0,0,0\r\n",
                                         "2,0,0,0,0,1\r\n", ""};
     for (size_t i = 0; i < sizeof strangers / sizeof strangers[0]; i++)
         for (int place = 0; place < 4; place++) {
             for (int j = 0; j < 4; j++) {
                 if (j == place)
-                    add(strangers[i]);
+                    add_hurt(strangers[i]);
                 add(lines[j]);
             }
             keep("stranger");
         }
 }
 
+/* One byte again and again: what its first fault is where a line begins, and where the last field may end. */
+static const struct {
+    char byte;
+    unsigned first, last;
+} garbage[] = {{'\0', STRAY_BYTE, STRAY_BYTE},      {'0', DIGIT_TOO_MANY, DIGIT_TOO_MANY},
+               {'7', DIGIT_TOO_MANY, DIGIT_TOO_MANY}, {',', NO_DIGIT, WRONG_COUNT},
+               {'\r', NO_DIGIT, WRONG_END},          {'\n', STRAY_BYTE, STRAY_BYTE},
+               {'A', STRAY_BYTE, STRAY_BYTE},        {'\x1a', STRAY_BYTE, STRAY_BYTE},
+               {(char)0xff, STRAY_BYTE, STRAY_BYTE}};
+
+/* How many of them go before it. */
+static size_t right_garbage(int place, unsigned refusal)
+{
+    if (place == 2)
+        return refusal == WRONG_END;
+    return refusal == DIGIT_TOO_MANY ? place == 0 ? 5 : 6 : 0;
+}
+
 static void long_garbage(void)
 {
-    static const char garbage[] = {'\0', '0', '7', ',', '\r', '\n', 'A', '\x1a', (char)0xff};
-    for (size_t i = 0; i < sizeof garbage; i++)
+    for (size_t i = 0; i < sizeof garbage / sizeof garbage[0]; i++)
         for (int place = 0; place < 3; place++) {
+            unsigned refusal = place < 2 ? garbage[i].first : garbage[i].last;
+            size_t right = right_garbage(place, refusal);
             if (place > 0)
                 add(settings_line);
             if (place > 1)
                 add("1,0,20001,0,0,0\r\n2,0,0,0,0,0");
-            fill(garbage[i], 3 * PORTION + 1);
+            fill(garbage[i].byte, right);
+            fault_here(refusal);
+            fill(garbage[i].byte, 3 * PORTION + 1 - right);
             add("\r\n");
             keep("garbage");
         }
@@ -286,9 +718,13 @@ static void hurt_around_a_portion_end(void)
     for (size_t place = PORTION - LONGEST_ROW - 5; place < PORTION + LONGEST_ROW + 5; place++) {
         shifted_recording(0, ROWS_OVER_A_PORTION);
         used = place;
+        cut_here();
         keep("cut");
         shifted_recording(0, ROWS_OVER_A_PORTION);
-        text[place] = text[place] == '0' ? '3' : 'x';
+        size_t whole = used;
+        used = place;
+        add_strange(text[place] == '0' ? '3' : 'x');
+        used = whole;
         keep("hurt");
     }
 }
@@ -376,13 +812,20 @@ static void hurt_by_chance(void)
 
 static void small(const char *into)
 {
+    char path[4096];
     folder = into;
+    snprintf(path, sizeof path, "%s/known", folder);
+    if ((known = fopen(path, "w")) == NULL)
+        fail(path);
     prefixes();
     one_byte_hurt();
     settings_at_their_limits();
     settings_wrong_together();
     settings_line_alone();
     rows_with_a_hurt_field();
+    faults_in_every_field();
+    long_lines();
+    line_ends();
     numbers_and_blocks();
     strangers_between_lines();
     long_garbage();
@@ -390,6 +833,8 @@ static void small(const char *into)
     hurt_around_a_portion_end();
     good_by_chance();
     hurt_by_chance();
+    if (fclose(known) != 0)
+        fail("known");
 }
 
 /* ---- One long recording ---- */

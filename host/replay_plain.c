@@ -3,12 +3,12 @@
  * share no code with the proved ones, so that they can be compared.
  *   replay_plain replay        writes the changes and the end line
  *   replay_plain replay --config FILE
- *                              the same with the recorder's configuration; says which of its lines
- *                              is refused on standard error
- *   replay_plain record        writes a row for each row done; says a refusal on standard error
- *   replay_plain explain ROW   writes why each phase did or did not trip in that row; says a
- *                              refusal up to it, or that there is no such row, on standard error
- * Standard input to standard output. Words in quotes are the documents'.
+ *                              the same with the recorder's configuration
+ *   replay_plain record        writes a row for each row done
+ *   replay_plain explain ROW   writes why each phase did or did not trip in that row, or says on
+ *                              standard error that there is no such row
+ * Standard input to standard output; a refusal is said on standard error. Words in quotes are the
+ * documents'.
  */
 #include "config_plain.h"
 #include "plain.h"
@@ -18,12 +18,13 @@
 #include <string.h>
 #include <unistd.h>
 
-enum refusal { ACCEPTED = 0, WRONG_SHAPE = 12, WRONG_NUMBER = 13, WRONG_BLOCK = 14,
-               WRONG_LAST_SAMPLE = 28 };
+enum refusal { ACCEPTED = 0, WRONG_NUMBER = 13, WRONG_BLOCK = 14, FIRST_OF_CONFIG = 18,
+               LAST_OF_CONFIG = 27, WRONG_LAST_SAMPLE = 28, FIRST_FAULT = 29, STRAY_BYTE = 31 };
 
 /* ---- Input: "in portions of at most 64 KiB" ---- */
 
-enum { PORTION = 64 * 1024, LONGEST_LINE = 45 /* a row; the settings line has 43 at most */ };
+/* A row has 45 bytes at most, the settings line 43: so many without CR LF are too many. */
+enum { PORTION = 64 * 1024, TOO_LONG = 46 };
 
 /*
  * What was read and not yet used lies from `next` to `filled`, where a byte 0
@@ -33,13 +34,13 @@ static uint8_t bytes[PORTION + 1];
 static const uint8_t *next = bytes;
 static uint8_t *filled = bytes;
 
-/* Reads on until the longest line is there whole, or the input ends. */
+/* Reads on until the line is there whole or is too long, or the input ends. */
 static void fill(void)
 {
     size_t left = (size_t)(filled - next);
     memmove(bytes, next, left);
     next = bytes;
-    while (left < LONGEST_LINE) {
+    while (left < TOO_LONG) {
         ssize_t got = read(STDIN_FILENO, bytes + left, PORTION - left);
         if (got < 0) {
             perror("standard input");
@@ -56,7 +57,7 @@ static void fill(void)
 /* Whether a line begins here, which is then there whole if its shape is right. */
 static bool another_line(void)
 {
-    if (filled - next < LONGEST_LINE)
+    if (filled - next < TOO_LONG)
         fill();
     return next < filled;
 }
@@ -89,13 +90,162 @@ static inline bool read_line(int fields, const int most[], uint64_t values[])
     return true;
 }
 
+/* ---- The place of a bad row ---- */
+
+/* A line that is due so many fields; `cr` is its first CR, or its end where it has none. */
+struct line {
+    const uint8_t *bytes;
+    size_t length, cr;
+    int fields;
+    const int *most;
+};
+
+static bool byte_is(const struct line *line, size_t at, uint8_t byte)
+{
+    return at < line->length && line->bytes[at] == byte;
+}
+
+static bool digit_is(const struct line *line, size_t at)
+{
+    return at < line->length && '0' <= line->bytes[at] && line->bytes[at] <= '9';
+}
+
+/* "the field, 1 plus the commas before it" */
+static int field_at(const struct line *line, size_t at)
+{
+    int field = 1;
+    for (size_t i = 0; i < at; i++)
+        field += line->bytes[i] == ',';
+    return field;
+}
+
+static int digits_before(const struct line *line, size_t at)
+{
+    int count = 0;
+    while (at > 0 && digit_is(line, --at))
+        count++;
+    return count;
+}
+
+/* "a field with no digit (a comma, CR or end where its first is due)" */
+static bool no_digit(const struct line *line, size_t at)
+{
+    bool due = at == 0 || byte_is(line, at - 1, ',');
+    return due && (byte_is(line, at, ',') || byte_is(line, at, '\r') || at == line->length);
+}
+
+/* "a digit too many" */
+static bool digit_too_many(const struct line *line, size_t at)
+{
+    int field = field_at(line, at);
+    return digit_is(line, at) && field <= line->fields &&
+           digits_before(line, at) >= line->most[field - 1];
+}
+
+/* "a byte before the CR that isn't digit or comma" */
+static bool stray_byte(const struct line *line, size_t at)
+{
+    return at < line->cr && !digit_is(line, at) && !byte_is(line, at, ',');
+}
+
+/* "too few or too many fields (at the CR or end; at the comma)" */
+static bool wrong_count(const struct line *line, size_t at)
+{
+    if (at == line->cr)
+        return field_at(line, at) < line->fields;
+    return at < line->cr && byte_is(line, at, ',') && field_at(line, at) >= line->fields;
+}
+
+/* "a missing CR LF or bytes after it (at the first wrong byte, or the end)" */
+static bool wrong_end(const struct line *line, size_t at)
+{
+    if (line->cr == line->length)
+        return at == line->length;
+    if (!byte_is(line, line->cr + 1, '\n'))
+        return at == line->cr + 1;
+    return at == line->cr + 2 && at < line->length;
+}
+
+/* "at one offset the order just given decides" */
+static bool (*const faults[])(const struct line *, size_t) = {no_digit, digit_too_many, stray_byte,
+                                                              wrong_count, wrong_end};
+
+static const char *const fault_words[] = {"no digit in the field", "a digit too many",
+                                          "neither a digit nor a comma",
+                                          "too few or too many fields",
+                                          "CR LF is missing, or bytes follow it"};
+
+enum { FAULTS = sizeof faults / sizeof faults[0] };
+
+/* What is told of the line that was refused for its shape. */
+static struct {
+    size_t byte;
+    int field;
+    const char *words, *hint;
+} place;
+
+/* "a line feed where CR LF was due": after the digits of the last field */
+static bool lf_for_cr_lf(const struct line *line, size_t at)
+{
+    return byte_is(line, at, '\n') && field_at(line, at) == line->fields && digits_before(line, at) > 0;
+}
+
+static const char *hint_of(const struct line *line, size_t at)
+{
+    static const uint8_t mark[] = {0xef, 0xbb, 0xbf};
+    if (lf_for_cr_lf(line, at))
+        return "; the file seems to have LF line ends, where CR LF is due";
+    if (line->length >= sizeof mark && memcmp(line->bytes, mark, sizeof mark) == 0)
+        return "; the line begins with a byte order mark";
+    return "";
+}
+
+/* "Where several faults are in a row, the one at the lowest offset is told" */
+static uint32_t first_fault(const struct line *line)
+{
+    for (size_t at = 0; at <= line->length; at++)
+        for (uint32_t i = 0; i < FAULTS; i++)
+            if (faults[i](line, at)) {
+                place.byte = at;
+                place.field = field_at(line, at);
+                place.words = fault_words[i];
+                place.hint = FIRST_FAULT + i == STRAY_BYTE ? hint_of(line, at) : "";
+                return FIRST_FAULT + i;
+            }
+    fputs("replay_plain: a line that cannot be read has no fault\n", stderr);
+    abort();
+}
+
+/*
+ * Bytes to and with the next CR LF. Of a line that is too long, as many as were read: its fault
+ * stands among the first TOO_LONG, so what comes after them cannot matter.
+ */
+static size_t line_length(void)
+{
+    for (const uint8_t *at = next; at + 1 < filled; at++)
+        if (at[0] == '\r' && at[1] == '\n')
+            return (size_t)(at + 2 - next);
+    return (size_t)(filled - next);
+}
+
+/* The refusal of the next line, which read_line could not read. */
+static uint32_t wrong_shape(int fields, const int most[])
+{
+    struct line line = {next, line_length(), 0, fields, most};
+    while (line.cr < line.length && line.bytes[line.cr] != '\r')
+        line.cr++;
+    return first_fault(&line);
+}
+
+/* ---- The settings line and the rows ---- */
+
 /* "The settings line holds the seven settings the same way, 1 to 5 digits each." */
 static uint32_t read_settings(struct plain_settings *set)
 {
     static const int most[7] = {5, 5, 5, 5, 5, 5, 5};
     uint64_t v[7];
-    if (!another_line() || !read_line(7, most, v))
-        return WRONG_SHAPE;
+    if (!another_line() || !read_line(7, most, v)) /* "an empty input is one with no digit" */
+        return wrong_shape(7, most);
     *set = (struct plain_settings){(uint32_t)v[0], (uint32_t)v[1], (uint32_t)v[2], (uint32_t)v[3],
                                    (uint32_t)v[4], (uint32_t)v[5], (uint32_t)v[6]};
     return plain_check_settings(set->operation, set->start_current, set->time_multiplier,
@@ -114,7 +264,7 @@ static uint32_t read_row(uint32_t last_number, struct row *row)
     static const int most[6] = {6, 10, 7, 7, 7, 1};
     uint64_t v[6];
     if (!read_line(6, most, v))
-        return WRONG_SHAPE;
+        return wrong_shape(6, most);
     if (v[0] != last_number + 1)
         return WRONG_NUMBER;
     if (v[5] > 1)
@@ -218,52 +368,79 @@ static uint32_t replay_rows(const struct plain_settings *set, struct asked asked
     return ACCEPTED;
 }
 
-/* What is said of a refusal is the proved one's line up to the words for a person. */
-static void write_end(struct asked asked, bool settings_right, unsigned rows_done,
-                      unsigned refusal)
+/* What the replay did, and what it ended with. */
+struct ended {
+    uint32_t refusal;
+    uint32_t rows_done;
+    bool settings_right;
+    uint32_t config_line; /* that is refused */
+};
+
+/* Which line is refused, or the recording as a whole. */
+static void say_what(const struct ended *ended)
 {
+    if (!ended->settings_right)
+        fputs("settings line", stderr);
+    else if (FIRST_OF_CONFIG <= ended->refusal && ended->refusal <= LAST_OF_CONFIG)
+        fprintf(stderr, "line %u of the configuration", (unsigned)ended->config_line);
+    else if (ended->refusal == WRONG_LAST_SAMPLE)
+        fputs("recording", stderr);
+    else
+        fprintf(stderr, "row %u", (unsigned)ended->rows_done + 1);
+}
+
+/* The proved one's line, but without the words of a refusal that has no place. */
+static void say_refusal(const struct ended *ended)
+{
+    say_what(ended);
+    fprintf(stderr, ": refused %u: ", (unsigned)ended->refusal);
+    if (ended->refusal >= FIRST_FAULT)
+        fprintf(stderr, "byte %zu, field %d: %s%s", place.byte, place.field, place.words,
+                place.hint);
+    fputs("\n", stderr);
+}
+
+/* The record has no end line on standard output: it begins what is said. */
+static void write_end(struct asked asked, const struct ended *ended)
+{
+    unsigned rows_done = (unsigned)ended->rows_done, refusal = (unsigned)ended->refusal;
     if (asked.form == REPLAY)
         printf("end,%u,%u\n", rows_done, refusal);
-    else if (asked.form == RECORD && refusal != ACCEPTED)
-        fprintf(stderr, "end,%u,%u: \n", rows_done, refusal);
-    else if (asked.form == EXPLAIN && !settings_right)
-        fprintf(stderr, "the settings line is refused with %u: \n", refusal);
-    else if (asked.form == EXPLAIN && refusal != ACCEPTED)
-        fprintf(stderr, "row %u is refused with %u: \n", rows_done + 1, refusal);
+    if (asked.form == RECORD && refusal != ACCEPTED)
+        fprintf(stderr, "end,%u,%u: ", rows_done, refusal);
+    if (refusal != ACCEPTED)
+        say_refusal(ended);
     else if (asked.form == EXPLAIN && rows_done < asked.last_row)
         fprintf(stderr, "the recording has no row %u; rows done: %u\n", (unsigned)asked.last_row,
                 rows_done);
 }
 
-/* "The end line keeps its form; the line number goes to standard error." */
-static uint32_t read_config(const char *path, uint64_t *last_sample)
+/* The rows, to the refusal of one or to their end, where their number must be the configuration's. */
+static void answer_rows(const struct plain_settings *set, struct asked asked, uint64_t last_sample,
+                        struct ended *ended)
 {
-    struct plain_config config = plain_read_config_file(path);
-    if (config.refusal != ACCEPTED)
-        fprintf(stderr, "line %u of the configuration is refused with %u: \n", (unsigned)config.line,
-                (unsigned)config.refusal);
-    *last_sample = config.last_sample;
-    return config.refusal;
+    if (plain_needs_powers(set))
+        plain_fill_powers();
+    ended->refusal = replay_rows(set, asked, &ended->rows_done);
+    if (ended->refusal == ACCEPTED && asked.config != NULL && ended->rows_done != last_sample)
+        ended->refusal = WRONG_LAST_SAMPLE;
 }
 
-/* "the settings line first (12, 1 to 7); then the configuration (18 to 27)"; "then the rows" */
+/* "the settings line first"; "then the configuration (18 to 27)"; "then the rows" */
 static void answer(struct asked asked)
 {
     struct plain_settings set;
-    uint32_t rows_done = 0;
-    uint64_t last_sample = 0;
-    uint32_t refusal = read_settings(&set);
-    bool settings_right = refusal == ACCEPTED;
-    if (settings_right && asked.config != NULL)
-        refusal = read_config(asked.config, &last_sample);
-    if (refusal == ACCEPTED) {
-        if (plain_needs_powers(&set))
-            plain_fill_powers();
-        refusal = replay_rows(&set, asked, &rows_done);
-        if (refusal == ACCEPTED && asked.config != NULL && rows_done != last_sample)
-            refusal = WRONG_LAST_SAMPLE;
+    struct plain_config config = {ACCEPTED, 0, 0};
+    struct ended ended = {read_settings(&set), 0, false, 0};
+    ended.settings_right = ended.refusal == ACCEPTED;
+    if (ended.settings_right && asked.config != NULL) {
+        config = plain_read_config_file(asked.config);
+        ended.refusal = config.refusal;
+        ended.config_line = config.line;
     }
-    write_end(asked, settings_right, rows_done, refusal);
+    if (ended.refusal == ACCEPTED)
+        answer_rows(&set, asked, config.last_sample, &ended);
+    write_end(asked, &ended);
 }
 
 /* ---- The command ---- */

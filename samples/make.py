@@ -49,6 +49,10 @@ recording("chatter.csv", "1,200,100,40,100,60,0", 15 * [(6, 20200, 0, 0, 0), (4,
 recording("damaged_row.csv", "1,200,100,40,40,60,0", [(60, 20001, 0, 0, 0)])
 path = here / "damaged_row.csv"
 path.write_bytes(path.read_bytes().replace(b"30,29000,20001,", b"30,29000,2000x,"))
+# A recording that an editor has saved with LF line ends.
+recording("lf_ends.csv", "1,200,100,40,40,60,0", [(45, 20001, 0, 0, 0), (5, 0, 0, 0, 0)])
+path = here / "lf_ends.csv"
+path.write_bytes(path.read_bytes().replace(b"\r\n", b"\n"))
 # A fault between L2 and L3 as a recorder has it: load, five times the setting, and the open breaker, where the relay drops out.
 recording("recorder.csv", "3,200,5,40,40,60,0", [(100, 9100, 9000, 8900, 0), (190, 9100, 100000, 100000, 0), (30, 0, 0, 0, 0)])
 configuration("recorder.cfg", ("1.0", "1.0", "1.0"), 320)

@@ -6,13 +6,15 @@ use mathlib.Core.Bool.{Bool, true, false, cond}
 use mathlib.Core.List.{List, [], _∷_, _++_}
 use Prim.Native.Nat.{ℕ}
 use lib.Dec.{eqb}
-use borrow.Author.Tests.{eq-eqb, ne-eqb, eqb-true}
+use borrow.Author.Tests.{eq-eqb, ne-eqb}
 use Rattle.relay.specs.declared.tick.RelayTicked.{RelayTicked}
 use Rattle.rows.specs.declared.row.Row.{Row}
 use Rattle.rows.specs.declared.row.RowRead.{RowRead}
 use Rattle.rows.specs.declared.row.RowRead.the-variants as row
 use Rattle.rows.specs.declared.settings_line.SettingsRead.{SettingsRead}
 use Rattle.rows.specs.declared.settings_line.SettingsRead.the-variants as settings-line
+use Rattle.rows.specs.declared.refusal.Refusal.{Refusal}
+use Rattle.rows.specs.Refusal.{withoutPlace}
 use Rattle.rows.specs.Row.{rowAnswer}
 use Rattle.rows.specs.SettingsLine.{settingsIn, settingsLineRefusal, settingsLineAnswer}
 use Rattle.rows.proofs.SettingsLineLaws.{settings-answer}
@@ -44,7 +46,7 @@ use Rattle.files.proofs.ReplayLaws.{onlyEnd, opening, kept-refusal, tol
 pub nothing-configured : (c : List ℕ) → configuredReplayOf c [] ≡ replayOf []
 nothing-configured c = ap notesAndEnd (told-of-nothing Changes (Given (configOf c)) ∙ sym (told-of-nothing Changes Absent))
 
-pub refused-settings-configured : (c s l : List ℕ) (ls : List (List ℕ)) (n : ℕ) → linesOf CrLf s ≡ l ∷ ls → settingsLineRefusal l ≡ n → (n ≡ 0 → ⊥)
+pub refused-settings-configured : (c s l : List ℕ) (ls : List (List ℕ)) (n : Refusal) → linesOf CrLf s ≡ l ∷ ls → settingsLineRefusal l ≡ n → (n .number ≡ 0 → ⊥)
     → configuredReplayOf c s ≡ replayOf s
 refused-settings-configured c s l ls n e h k =
     ap notesAndEnd (told-of-refused-settings Changes (Given (configOf c)) s l ls n e h k ∙ sym (told-of-refused-settings Changes Absent s l ls n e h k))
@@ -57,9 +59,9 @@ module _ (form : Form) (x : Fault) where
 
   refused-alone : (l : List ℕ) (ls : List (List ℕ)) → byLines form (opened begun (settings-line.Accepted (settingsIn (numbersOf l)))) ls ≡ onlyEnd (x .refusal)
   unfolding stageRefusal
-  refused-alone l ls = stopped-ends form (opened begun (settings-line.Accepted (settingsIn (numbersOf l)))) (x .refusal) ls refl
+  refused-alone l ls = stopped-ends form (opened begun (settings-line.Accepted (settingsIn (numbersOf l)))) (withoutPlace (x .refusal)) ls refl
 
-  told-of-refused-configuration : (s l : List ℕ) (ls : List (List ℕ)) → linesOf CrLf s ≡ l ∷ ls → settingsLineRefusal l ≡ 0
+  told-of-refused-configuration : (s l : List ℕ) (ls : List (List ℕ)) → linesOf CrLf s ≡ l ∷ ls → settingsLineRefusal l .number ≡ 0
       → toldOf form (Given (Refused x)) s ≡ onlyEnd (x .refusal)
   unfolding toldOf
   told-of-refused-configuration s l ls e h =
@@ -69,7 +71,7 @@ module _ (form : Form) (x : Fault) where
       ∙ refused-alone l ls
 
 -- "a refused file gives only `end,0,` and its number", whatever rows follow the settings line
-pub refused-configuration : (c s l : List ℕ) (ls : List (List ℕ)) (x : Fault) → configOf c ≡ Refused x → linesOf CrLf s ≡ l ∷ ls → settingsLineRefusal l ≡ 0
+pub refused-configuration : (c s l : List ℕ) (ls : List (List ℕ)) (x : Fault) → configOf c ≡ Refused x → linesOf CrLf s ≡ l ∷ ls → settingsLineRefusal l .number ≡ 0
     → configuredReplayOf c s ≡ endLine 0 (x .refusal)
 refused-configuration c s l ls x q e h =
     ap (λ (a : ConfigRead). notesAndEnd (toldOf Changes (Given a) s)) q ∙ ap notesAndEnd (told-of-refused-configuration Changes x s l ls e h)
@@ -94,7 +96,7 @@ module _ (c : Configuration) (runs : afterSettings c ≡ Running) where
   opened-under p (settings-line.Refused n) = refl
 
   ticked-under : (b : Bool) (p : Progress) (t : RelayTicked)
-      → cond b (rowDone (under c p) t) (stopped (t .refusal) (under c p)) ≡ under c (cond b (rowDone (under Absent p) t) (stopped (t .refusal) (under Absent p)))
+      → cond b (rowDone (under c p) t) (stopped (withoutPlace (t .refusal)) (under c p)) ≡ under c (cond b (rowDone (under Absent p) t) (stopped (withoutPlace (t .refusal)) (under Absent p)))
   ticked-under true p t = refl
   ticked-under false p t = refl
 
@@ -137,45 +139,47 @@ module _ (form : Form) (c : Configuration) where
       ∙ ap (writtenFirst w) (by-under runs q ls)
       ∙ ap (λ (x : Progress). record { notes = w ++ byLines form x ls .notes; end = endOf (under c (afterLines x ls)) }) (sym (line-under Absent refl (p .stage) p l))
 
--- the rows done and the refusal number, without a configuration
+-- the rows done and the refusal, without a configuration
 abbrev pub rowsDone : List ℕ → ℕ
 rowsDone s = afterLines (freshProgress Absent) (linesOf CrLf s) .done
 
-abbrev pub refusalOf : List ℕ → ℕ
+abbrev pub refusalOf : List ℕ → Refusal
 refusalOf s = stageRefusal (afterLines (freshProgress Absent) (linesOf CrLf s) .stage)
 
 -- the change lines of a recording, and an end line with a number
 abbrev pub endedWith : List ℕ → ℕ → List ℕ
 endedWith s n = toldOf Changes Absent s .notes ++ endLine (rowsDone s) n
 
-ended-under : (c : Configuration) → afterSettings c ≡ Running → (s : List ℕ) → notesAndEnd (toldOf Changes c s) ≡ endedWith s (lastRefusal c (rowsDone s) (refusalOf s))
+ended-under : (c : Configuration) → afterSettings c ≡ Running → (s : List ℕ) → notesAndEnd (toldOf Changes c s) ≡ endedWith s (lastRefusal c (rowsDone s) (refusalOf s) .number)
 unfolding toldOf
 ended-under c runs s = ap notesAndEnd (by-under Changes c runs (freshProgress Absent) (linesOf CrLf s))
 
-replay-ends : (s : List ℕ) → replayOf s ≡ endedWith s (refusalOf s)
+replay-ends : (s : List ℕ) → replayOf s ≡ endedWith s (refusalOf s .number)
 replay-ends s = ended-under Absent refl s
 
 module _ (c s : List ℕ) (last : ℕ) (q : configOf c ≡ Accepted last) where
-  abbrev number : ℕ
-  number = lastRefusal (Given (Accepted last)) (rowsDone s) (refusalOf s)
+  abbrev carried : Refusal
+  carried = lastRefusal (Given (Accepted last)) (rowsDone s) (refusalOf s)
 
-  ended : configuredReplayOf c s ≡ endedWith s number
+  ended : configuredReplayOf c s ≡ endedWith s (carried .number)
   ended = ap (λ (a : ConfigRead). notesAndEnd (toldOf Changes (Given a) s)) q ∙ ended-under (Given (Accepted last)) refl s
 
-  as-before : number ≡ refusalOf s → configuredReplayOf c s ≡ replayOf s
-  as-before e = ended ∙ ap (endedWith s) e ∙ sym (replay-ends s)
+  as-before : carried ≡ refusalOf s → configuredReplayOf c s ≡ replayOf s
+  as-before e = ended ∙ ap (λ (x : Refusal). endedWith s (x .number)) e ∙ sym (replay-ends s)
 
   -- "The last sample number must equal the rows done": then the configuration changes nothing
   pub right-last-sample : last ≡ rowsDone s → configuredReplayOf c s ≡ replayOf s
   right-last-sample e =
       as-before
       (rw (eq-eqb last (rowsDone s) e)
-      (by-cond (λ (n : ℕ). n ≡ refusalOf s) (eqb (refusalOf s) 0) 0 (refusalOf s) (λ z. sym (eqb-true (refusalOf s) 0 z)) (λ z. refl)))
+      (by-cond (λ (x : Refusal). x ≡ refusalOf s) (eqb (refusalOf s .number) 0) (refusalOf s) (refusalOf s) (λ z. refl) (λ z. refl)))
 
   -- nor does it where the recording is refused
-  pub refused-recording : (refusalOf s ≡ 0 → ⊥) → configuredReplayOf c s ≡ replayOf s
+  pub refused-recording : (refusalOf s .number ≡ 0 → ⊥) → configuredReplayOf c s ≡ replayOf s
   refused-recording k = as-before (kept-refusal (Given (Accepted last)) (rowsDone s) (refusalOf s) k)
 
   -- "else an end line that would carry 0 carries 28"
-  pub wrong-last-sample : refusalOf s ≡ 0 → (last ≡ rowsDone s → ⊥) → configuredReplayOf c s ≡ endedWith s wrongLastSample
-  wrong-last-sample z k = ended ∙ ap (endedWith s) (rw (eq-eqb (refusalOf s) 0 z, ne-eqb last (rowsDone s) k))
+  pub wrong-last-sample : refusalOf s .number ≡ 0 → (last ≡ rowsDone s → ⊥) → configuredReplayOf c s ≡ endedWith s wrongLastSample
+  wrong-last-sample z k =
+      let other : carried ≡ withoutPlace wrongLastSample = rw (eq-eqb (refusalOf s .number) 0 z, ne-eqb last (rowsDone s) k) in
+      ended ∙ ap (λ (x : Refusal). endedWith s (x .number)) other

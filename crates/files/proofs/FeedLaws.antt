@@ -1,8 +1,8 @@
 -- How far the code has come in a portion, line by line.
 -- Assumes nothing.
 use mathlib.Core.Path.{_≡_, refl, sym, ap, _∙_}
-use mathlib.Core.Bool.{true}
-use mathlib.Core.List.{List, [], _++_}
+use mathlib.Core.Bool.{Bool, true, false}
+use mathlib.Core.List.{List, [], _∷_, _++_, append-nil}
 use Prim.Native.Nat.{ℕ, _+_, _*_, _≤_, _<_}
 use native.Mathlib.Nat.{add-zero}
 use native.Mathlib.Omega.{arith}
@@ -13,22 +13,30 @@ use Rattle.text.specs.declared.lines.Cut.{Cut}
 use Rattle.text.specs.declared.lines.Cut.the-variants.{Held, Closed, TooLong}
 use Rattle.text.specs.declared.cutter.Cutter.{Cutter}
 use Rattle.text.specs.declared.cutter.PieceCut.{PieceCut}
-use Rattle.text.specs.Lines.{Cutting, cuttingBy, cutSoFar, cutting}
-use Rattle.text.specs.Cutter.{heldRoom, emptyCutter, heldLine, heldAfter, pieceAnswer}
+use Rattle.text.specs.Lines.{Cutting, oneMore, cuttingBy, cutSoFar, cutting}
+use Rattle.text.specs.Cutter.{heldRoom, emptyCutter, heldLine, heldAfter, cutterAfter, pieceAnswer}
 use Rattle.files.specs.declared.output.Form.{Form}
 use Rattle.files.specs.declared.output.Form.the-variants.{Changes, Record, Explain}
 use Rattle.files.specs.declared.progress.Noted.{Noted}
 use Rattle.files.specs.declared.replay.Replay.{Replay}
 use Rattle.files.specs.declared.replay.Fed.{Fed}
 use Rattle.files.specs.Output.{spread}
-use Rattle.files.specs.Progress.{afterLine, wroteLine, refuse}
-use Rattle.files.specs.Replay.{lineLimit, afterLines, wroteLines, refuseIf, cutPortion, fedCut, fed, writes}
+use Rattle.files.specs.Progress.{afterLine, wroteLine}
+use Rattle.files.specs.Replay.{lineLimit, afterLines, wroteLines, withLong, linesIn, cutPortion, fedCut, fed, writes}
 use Rattle.files.specs.device.Calls.{LineNoted, PortionFed}
 use Rattle.text.proofs.StoreLaws.{sets-append}
 use Rattle.text.proofs.PieceLaws.{PieceTaken, piece-taken, cutting-goes-on}
 use Rattle.text.proofs.KeptLaws.{line-taken}
 
 -- ---- the rest of a portion from the place i on, by what the next piece did
+
+more-by : (b : Bool) (l : List ℕ) (ls : List (List ℕ)) (held : List ℕ) → withLong b (l ∷ ls) held ≡ l ∷ withLong b ls held
+unfolding withLong
+more-by true l ls held = refl
+more-by false l ls held = refl
+
+lines-more : (l : List ℕ) (x : Cutting) → linesIn (oneMore l x) ≡ l ∷ linesIn x
+lines-more l x = more-by (x .tooLong) l (x .lines) (x .held)
 
 module _ (s : Replay) (p : List ℕ) (i : ℕ) (short : s .cutter .count < lineLimit) (room : length (s .cutter .held) ≡ heldRoom) (k : PieceCut)
     (answer : k ≡ pieceAnswer CrLf lineLimit (s .cutter) p i) where
@@ -52,36 +60,41 @@ module _ (s : Replay) (p : List ℕ) (i : ℕ) (short : s .cutter .count < lineL
   still c = record { form = s .form; progress = s .progress; cutter = c }
 
   fed-held : k .cut ≡ Held → fed s (drop i p) ≡ still (k .cutter)
-  unfolding fed afterLines refuseIf heldAfter
+  unfolding fed afterLines withLong heldAfter
   fed-held e = ap (fedCut s (drop i p)) (cut-here Held e) ∙ ap still (sym (piece .all e))
 
-  fed-long : k .cut ≡ TooLong → fed s (drop i p) ≡ record { form = s .form; progress = refuse (s .progress); cutter = emptyCutter }
-  unfolding fed afterLines refuseIf heldAfter
+  fed-long : k .cut ≡ TooLong → fed s (drop i p) ≡ next
+  unfolding fed afterLines withLong heldAfter
   fed-long e = ap (fedCut s (drop i p)) (cut-here TooLong e)
 
   abbrev onward : Cutter → Replay
   onward c = record { form = s .form; progress = fedCut next (drop (k .next) p) (cutPortion next (drop (k .next) p)) .progress; cutter = c }
 
+  abbrev after : List (List ℕ) → Replay
+  after ls = record { form = s .form; progress = afterLines (s .progress) ls; cutter = cutterAfter (cutAs Closed) (s .cutter) (drop i p) }
+
   fed-closed : k .cut ≡ Closed → fed s (drop i p) ≡ fed next (drop (k .next) p)
   unfolding fed afterLines
   fed-closed e =
       ap (fedCut s (drop i p)) (cut-here Closed e)
+      ∙ ap after (lines-more line (cutPortion next (drop (k .next) p)))
       ∙ ap onward (line-taken CrLf lineLimit (s .cutter) (drop i p) line (drop (k .next) p))
 
   abbrev wroteCut : Cutting → List ℕ
-  wroteCut x = wroteLines (s .form) (s .progress) (x .lines)
+  wroteCut x = wroteLines (s .form) (s .progress) (linesIn x)
 
   wrote-held : k .cut ≡ Held → writes s (drop i p) ≡ []
-  unfolding writes wroteLines
+  unfolding writes wroteLines withLong
   wrote-held e = ap wroteCut (cut-here Held e)
 
-  wrote-long : k .cut ≡ TooLong → writes s (drop i p) ≡ []
-  unfolding writes wroteLines
-  wrote-long e = ap wroteCut (cut-here TooLong e)
+  wrote-long : k .cut ≡ TooLong → writes s (drop i p) ≡ wroteLine (s .form) (s .progress) line
+  unfolding writes wroteLines withLong
+  wrote-long e = ap wroteCut (cut-here TooLong e) ∙ append-nil (wroteLine (s .form) (s .progress) line)
 
   wrote-closed : k .cut ≡ Closed → writes s (drop i p) ≡ wroteLine (s .form) (s .progress) line ++ writes next (drop (k .next) p)
   unfolding writes wroteLines
-  wrote-closed e = ap wroteCut (cut-here Closed e)
+  wrote-closed e =
+      ap wroteCut (cut-here Closed e) ∙ ap (wroteLines (s .form) (s .progress)) (lines-more line (cutPortion next (drop (k .next) p)))
 
 -- ---- what holds of a portion at its place i: the state s and the rest of the portion give what the whole gives
 
@@ -134,7 +147,7 @@ module _ (r : Replay) (p before : List ℕ) (i : ℕ) (s : Replay) (at : ℕ) (o
       }
 
   pub turn-last : length p ≤ i → (x : Fed) → x ≡ record { taken = true; state = s; written = at } → PortionFed r p before out x
-  unfolding fed writes cutting afterLines wroteLines refuseIf heldAfter
+  unfolding fed writes cutting afterLines wroteLines withLong heldAfter
   turn-last l x e =
       let none : drop i p ≡ [] = drop-of-length-le p l in
       over s x (rw (none, add-zero (s .cutter .count))) (rw none) e
@@ -152,9 +165,22 @@ module _ (r : Replay) (p before : List ℕ) (i : ℕ) (s : Replay) (at : ℕ) (o
     turn-held told x e =
         over (record { form = s .form; progress = s .progress; cutter = k .cutter }) x (fed-held s p i (turn .short) (turn .room) k answer told) (wrote-held s p i (turn .short) (turn .room) k answer told) e
 
-    pub turn-long : k .cut ≡ TooLong → (x : Fed) → x ≡ record { taken = true; state = record { form = s .form; progress = refuse (s .progress); cutter = emptyCutter }; written = at } → PortionFed r p before out x
-    turn-long told x e =
-        over (record { form = s .form; progress = refuse (s .progress); cutter = emptyCutter }) x (fed-long s p i (turn .short) (turn .room) k answer told) (wrote-long s p i (turn .short) (turn .room) k answer told) e
+    -- a line too long is taken as far as it was read, and the rest is not looked at
+    pub turn-long : k .cut ≡ TooLong → (t : Noted) (out' : List ℕ)
+        → LineNoted (spread (s .form) * k .cutter .count) out out' at (afterLine (s .progress) (heldLine (k .cutter))) (wroteLine (s .form) (s .progress) (heldLine (k .cutter))) t
+        → (x : Fed) → x ≡ record { taken = true; state = record { form = s .form; progress = t .progress; cutter = emptyCutter }; written = t .written } → PortionFed r p before out' x
+    turn-long told t out' n x e =
+        let q = next s p i (turn .short) (turn .room) k answer in
+        let w = wroteLine (s .form) (s .progress) (heldLine (k .cutter)) in
+        let begun : record { form = s .form; progress = t .progress; cutter = emptyCutter } ≡ q = rw (n .noted) in
+        let state : fed r p ≡ q = turn .state ∙ fed-long s p i (turn .short) (turn .room) k answer told in
+        let wrote : writes s (drop i p) ≡ w = wrote-long s p i (turn .short) (turn .room) k answer told in
+        let place : t .written ≡ length (writes r p) = ap (λ (y : Noted). y .written) (n .noted) ∙ sym (turn .place ∙ rw wrote) in
+        record {
+          answer = e ∙ rw (begun, place, state);
+          output = n .output ∙ sym (turn .bytes ∙ ap (sets out at) wrote);
+          within = rw e (omega (arith, rw (turn .same) at (n .short), line-room));
+        }
 
     pub turn-closed : k .cut ≡ Closed → (t : Noted) (out' : List ℕ)
         → LineNoted (spread (s .form) * k .cutter .count) out out' at (afterLine (s .progress) (heldLine (k .cutter))) (wroteLine (s .form) (s .progress) (heldLine (k .cutter))) t

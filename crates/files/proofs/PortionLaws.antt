@@ -2,7 +2,7 @@
 -- Assumes nothing.
 use mathlib.Core.Path.{_≡_, refl, sym, ap, _∙_}
 use mathlib.Core.Bool.{Bool, true, false, false≢true}
-use mathlib.Core.List.{List, [], _∷_, _++_, append-assoc}
+use mathlib.Core.List.{List, [], _∷_, _++_, append-nil, append-assoc}
 use Prim.Native.Nat.{ℕ, _≤_, _<_}
 use native.Mathlib.Omega.{arith}
 use lib.Dec.{ltb}
@@ -18,14 +18,15 @@ use Rattle.files.specs.declared.replay.Replay.{Replay}
 use Rattle.text.specs.declared.lines.Closer.the-variants.{CrLf}
 use Rattle.text.specs.Lines.{linesFrom, Cutting, joined}
 use Rattle.text.specs.Cutter.{heldLine, cutterAfter}
-use Rattle.files.specs.Progress.{afterLine, wroteLine, refuseBy}
-use Rattle.files.specs.Replay.{Told, endAlone, writtenFirst, byLines, toldOf, lineLimit, freshReplay, afterLines, wroteLines, refuseIf, cutPortion, fed, fedAll, Reached, writes, lastProgress, isAnswered}
+use Rattle.rows.specs.declared.refusal.Refusal.{Refusal}
+use Rattle.files.specs.Progress.{afterBy, afterLine, wroteLine}
+use Rattle.files.specs.Replay.{Told, endAlone, writtenFirst, byLines, toldOf, lineLimit, freshReplay, afterLines, wroteLines, withLong, linesIn, afterIf, cutPortion, fed, fedAll, Reached, writes, lastProgress, isAnswered}
 use Rattle.files.specs.device.Calls.{Sound}
 use Rattle.text.proofs.CutLaws.{lines-nil, last-nothing, joined-none, joined-more}
 use Rattle.text.proofs.CuttingLaws.{cut-lines, all-read, long-held}
 use Rattle.text.proofs.KeptLaws.{empty-holds, line-kept, still-holds}
-use Rattle.files.proofs.QuietLaws.{lines-done, refuse-if-done, quiet-before, quiet-after}
-use Rattle.files.proofs.RefusedLaws.{by-nil, stopped-ends, refused-ends, open-ends, long-ends}
+use Rattle.files.proofs.QuietLaws.{lines-done, quiet-before, quiet-after}
+use Rattle.files.proofs.RefusedLaws.{by-nil, stopped-ends, long-misshapen, misshapen-wrote, misshapen-stops, open-ends, long-ends}
 
 -- ---- a sound state stays sound
 
@@ -86,6 +87,16 @@ by-lines-append form p (l ∷ ls) ms =
 unfoldable left : Replay → List ℕ → Told
 left r s = byLines (r .form) (r .progress) (linesFrom CrLf (heldLine (r .cutter)) s)
 
+lines-after : (p : Progress) (ls : List (List ℕ)) (l : List ℕ) → afterLines p (ls ++ (l ∷ [])) ≡ afterLine (afterLines p ls) l
+unfolding afterLines
+lines-after p [] l = refl
+lines-after p (m ∷ ls) l = lines-after (afterLine p m) ls l
+
+lines-wrote : (form : Form) (p : Progress) (ls : List (List ℕ)) (l : List ℕ) → wroteLines form p (ls ++ (l ∷ [])) ≡ wroteLines form p ls ++ wroteLine form (afterLines p ls) l
+unfolding afterLines wroteLines
+lines-wrote form p [] l = append-nil (wroteLine form p l)
+lines-wrote form p (m ∷ ls) l = ap (λ (w : List ℕ). wroteLine form p m ++ w) (lines-wrote form (afterLine p m) ls l) ∙ sym (append-assoc (wroteLine form p m) (wroteLines form (afterLine p m) ls) (wroteLine form (afterLines (afterLine p m) ls) l))
+
 module _ (r : Replay) (s t : List ℕ) (h : Sound r) where
   abbrev x : Cutting
   x = cutPortion r s
@@ -93,12 +104,27 @@ module _ (r : Replay) (s t : List ℕ) (h : Sound r) where
   abbrev p : Progress
   p = afterLines (r .progress) (x .lines)
 
+  -- what comes after the lines that were closed, and what they and a line too long wrote
+  abbrev Rest : Bool → Type 0
+  Rest b =
+      writtenFirst (wroteLines (r .form) (r .progress) (x .lines)) (byLines (r .form) p (linesFrom CrLf (x .held) (x .unread ++ t)))
+      ≡ writtenFirst (wroteLines (r .form) (r .progress) (withLong b (x .lines) (x .held))) (byLines (r .form) (afterLines (r .progress) (withLong b (x .lines) (x .held))) (linesFrom CrLf (heldLine (cutterAfter x (r .cutter) s)) t))
+
   -- a line too long stops the replay, wherever it ends
-  rest-by : (b : Bool) → x .tooLong ≡ b → byLines (r .form) p (linesFrom CrLf (x .held) (x .unread ++ t)) ≡ byLines (r .form) (refuseIf b p) (linesFrom CrLf (heldLine (cutterAfter x (r .cutter) s)) t)
-  unfolding refuseIf
+  rest-by : (b : Bool) → x .tooLong ≡ b → Rest b
+  unfolding withLong
   rest-by true e =
-      long-ends (r .form) p (x .held) (x .unread ++ t) (omega (arith, long-held CrLf lineLimit (heldLine (r .cutter)) s e))
-      ∙ sym (refused-ends (r .form) p (linesFrom CrLf (heldLine (cutterAfter x (r .cutter) s)) t))
+      let long : lineLimit ≤ length (x .held) = omega (arith, long-held CrLf lineLimit (heldLine (r .cutter)) s e) in
+      let wrong = long-misshapen (x .held) long in
+      let stop = misshapen-stops p (x .held) wrong in
+      let w = wroteLines (r .form) (r .progress) (x .lines) in
+      let rest = linesFrom CrLf (heldLine (cutterAfter x (r .cutter) s)) t in
+      let wrote : wroteLines (r .form) (r .progress) (x .lines ++ (x .held ∷ [])) ≡ w = lines-wrote (r .form) (r .progress) (x .lines) (x .held) ∙ rw (misshapen-wrote (r .form) p (x .held) wrong) (append-nil w) in
+      ap (writtenFirst w) (long-ends (r .form) p (x .held) (x .unread ++ t) long)
+      ∙ sym
+      (ap (λ (v : List ℕ). writtenFirst v (byLines (r .form) (afterLines (r .progress) (x .lines ++ (x .held ∷ []))) rest)) wrote
+      ∙ ap (λ (q : Progress). writtenFirst w (byLines (r .form) q rest)) (lines-after (r .progress) (x .lines) (x .held))
+      ∙ ap (writtenFirst w) (stopped-ends (r .form) (afterLine p (x .held)) (stop .with) rest (stop .stage)))
   rest-by false e = rw (all-read CrLf lineLimit (heldLine (r .cutter)) s e, line-kept CrLf lineLimit (omega arith) (r .cutter) s h e)
 
   left-fed : left r (s ++ t) ≡ writtenFirst (writes r s) (left (fed r s) t)
@@ -106,15 +132,15 @@ module _ (r : Replay) (s t : List ℕ) (h : Sound r) where
   left-fed =
       ap (byLines (r .form) (r .progress)) (cut-lines CrLf lineLimit (heldLine (r .cutter)) s t)
       ∙ by-lines-append (r .form) (r .progress) (x .lines) (linesFrom CrLf (x .held) (x .unread ++ t))
-      ∙ ap (writtenFirst (wroteLines (r .form) (r .progress) (x .lines))) (rest-by (x .tooLong) refl)
+      ∙ rest-by (x .tooLong) refl
 
 -- the end of the input
 held-nothing : (r : Replay) → r .cutter .count ≡ 0 → heldLine (r .cutter) ≡ []
 held-nothing r e = rw e
 
 module _ (r : Replay) (h : Sound r) where
-  end-if : (t : Bool) → ltb 0 (r .cutter .count) ≡ t → left r [] ≡ endAlone (refuseIf t (r .progress))
-  unfolding left refuseIf
+  end-if : (t : Bool) → ltb 0 (r .cutter .count) ≡ t → left r [] ≡ endAlone (afterIf t (r .progress) (heldLine (r .cutter)))
+  unfolding left afterIf
   end-if true e =
       let k : 0 < length (heldLine (r .cutter)) = rw length-take (omega (arith, h .short, h .room, ltb-true 0 (r .cutter .count) e)) in
       open-ends (r .form) (r .progress) (heldLine (r .cutter)) k (h .unclosed)
@@ -143,14 +169,14 @@ told-of-portions form c ps = portions-left (freshReplay form c) ps (fresh-sound 
 
 -- ---- once stopped, what follows need not be read
 
-refuse-stopped : (g : Stage) (p : Progress) (n : ℕ) → g ≡ Stopped n → refuseBy g p ≡ p
-unfolding refuseBy
-refuse-stopped g p n e = ap (λ (q : Stage). refuseBy q p) e
+stopped-stays : (g : Stage) (p : Progress) (x : Refusal) (l : List ℕ) → g ≡ Stopped x → afterBy g p l ≡ p
+unfolding afterBy
+stopped-stays g p x l e = ap (λ (q : Stage). afterBy q p l) e
 
-module _ (r : Replay) (n : ℕ) (e : r .progress .stage ≡ Stopped n) where
-  stopped-if : (t : Bool) → endAlone (refuseIf t (r .progress)) ≡ endAlone (r .progress)
-  unfolding refuseIf
-  stopped-if true = ap endAlone (refuse-stopped (r .progress .stage) (r .progress) n e)
+module _ (r : Replay) (n : Refusal) (e : r .progress .stage ≡ Stopped n) where
+  stopped-if : (t : Bool) → endAlone (afterIf t (r .progress) (heldLine (r .cutter))) ≡ endAlone (r .progress)
+  unfolding afterIf
+  stopped-if true = ap endAlone (stopped-stays (r .progress .stage) (r .progress) n (heldLine (r .cutter)) e)
   stopped-if false = refl
 
   pub stop-early : (ps : List (List ℕ)) → Sound r → toldByPortions r ps ≡ endAlone (lastProgress r)
@@ -173,19 +199,21 @@ answered-early r ps h e =
 -- ---- as long as the rows done have not come to it, nothing was written
 
 module _ (row : ℕ) where
-  fed-done : (r : Replay) (s : List ℕ) → fed r s .progress .done ≡ afterLines (r .progress) (cutPortion r s .lines) .done
+  fed-done : (r : Replay) (s : List ℕ) → fed r s .progress ≡ afterLines (r .progress) (linesIn (cutPortion r s))
   unfolding fed
-  fed-done r s = refuse-if-done (cutPortion r s .tooLong) (afterLines (r .progress) (cutPortion r s .lines))
+  fed-done r s = refl
 
   all-done : (r : Replay) (ps : List (List ℕ)) → r .progress .done ≤ fedAll r ps .progress .done
   all-done r [] = omega arith
-  all-done r (p ∷ ps) = omega (arith, lines-done (r .progress) (cutPortion r p .lines), fed-done r p, all-done (fed r p) ps)
+  all-done r (p ∷ ps) =
+      let here : r .progress .done ≤ fed r p .progress .done = rw (fed-done r p) (lines-done (r .progress) (linesIn (cutPortion r p))) in
+      omega (arith, here, all-done (fed r p) ps)
 
   unanswered-writes : (r : Replay) (s : List ℕ) → r .form ≡ Explain row → fed r s .progress .done < row → writes r s ≡ []
   unfolding writes
   unanswered-writes r s e h =
-      ap (λ (form : Form). wroteLines form (r .progress) (cutPortion r s .lines)) e
-      ∙ quiet-before row (r .progress) (cutPortion r s .lines) (omega (arith, fed-done r s, h))
+      ap (λ (form : Form). wroteLines form (r .progress) (linesIn (cutPortion r s))) e
+      ∙ quiet-before row (r .progress) (linesIn (cutPortion r s)) (rw (fed-done r s) at h)
 
   pub unanswered-quiet : (r : Replay) (ps : List (List ℕ)) → r .form ≡ Explain row → fedAll r ps .progress .done < row
       → toldByPortions r ps .notes ≡ []

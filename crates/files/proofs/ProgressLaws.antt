@@ -1,14 +1,18 @@
 -- A line's turn of the replay: from what the code has at hand to what the definitions say.
 -- Assumes nothing.
-use mathlib.Core.Path.{_≡_, sym, ap, _∙_}
+use mathlib.Core.Path.{_≡_, refl, sym, ap, _∙_}
+use mathlib.Core.Bool.{Bool, true, false}
 use mathlib.Core.List.{List}
-use Prim.Native.Nat.{ℕ, _+_}
+use Prim.Native.Nat.{ℕ, _+_, min}
 use native.Mathlib.Omega.{arith}
-use lib.ListN.{length}
-use lib.Seq.{sets}
-use borrow.Author.Tests.{eq-eqb, ne-eqb}
+use lib.Dec.{leb}
+use lib.ListN.{length, take}
+use lib.Seq.{sets, take-all, take-length}
+use borrow.Author.Tests.{eq-eqb, ne-eqb, leb-true, leb-false}
 use Rattle.relay.specs.declared.tick.RelayTicked.{RelayTicked}
 use Rattle.rows.specs.declared.row.Row.{Row}
+use Rattle.rows.specs.declared.refusal.Refusal.{Refusal}
+use Rattle.rows.specs.Refusal.{withoutPlace}
 use Rattle.rows.specs.declared.row.RowRead.{RowRead}
 use Rattle.rows.specs.declared.row.RowRead.the-variants.{Accepted, Refused}
 use Rattle.files.specs.declared.output.Form.{Form}
@@ -24,22 +28,28 @@ use Rattle.files.specs.device.Calls.{notedOf}
 -- ---- a row
 
 -- the tick of an accepted row
+pub tick-done : (p : Progress) (t : RelayTicked) → t .refusal ≡ 0 → afterTick p t ≡ rowDone p t
+tick-done p t e = rw (eq-eqb (t .refusal) 0 e)
+
+pub tick-stopped : (p : Progress) (t : RelayTicked) → (t .refusal ≡ 0 → ⊥) → afterTick p t ≡ stopped (withoutPlace (t .refusal)) p
+tick-stopped p t e = rw (ne-eqb (t .refusal) 0 e)
+
 module _ (form : Form) (p : Progress) (x : Row) (t : RelayTicked) where
   module _ (e : t .refusal ≡ 0) where
     pub tick-output : (out out' : List ℕ) (at : ℕ) → out' ≡ sets out at (noteOf form p x t) → out' ≡ sets out at (wroteTick form p x t)
     tick-output out out' at h = rw (eq-eqb (t .refusal) 0 e) h
 
-    pub tick-noted : (end at : ℕ) → end ≡ at + length (noteOf form p x t) → record { progress = rowDone p t; written = end } ≡ notedOf (afterTick p t) (wroteTick form p x t) at
-    tick-noted end at h = rw (eq-eqb (t .refusal) 0 e, h)
+    pub tick-noted : (s : Progress) (end at : ℕ) → s ≡ afterTick p t → end ≡ at + length (noteOf form p x t) → record { progress = s; written = end } ≡ notedOf (afterTick p t) (wroteTick form p x t) at
+    tick-noted s end at g h = rw (g, eq-eqb (t .refusal) 0 e, h)
 
   module _ (e : t .refusal ≡ 0 → ⊥) where
     pub refused-tick-quiet : (out : List ℕ) (at : ℕ) → out ≡ sets out at (wroteTick form p x t)
     refused-tick-quiet out at = rw (ne-eqb (t .refusal) 0 e)
 
-    pub refused-tick-noted : (s : Progress) (at : ℕ) → s ≡ stopped (t .refusal) p → record { progress = s; written = at } ≡ notedOf (afterTick p t) (wroteTick form p x t) at
+    pub refused-tick-noted : (s : Progress) (at : ℕ) → s ≡ afterTick p t → record { progress = s; written = at } ≡ notedOf (afterTick p t) (wroteTick form p x t) at
     refused-tick-noted s at h =
         let z : at + 0 ≡ at = omega arith in
-        rw (ne-eqb (t .refusal) 0 e, h, z)
+        rw (h, ne-eqb (t .refusal) 0 e, z)
 
 module _ (form : Form) (p : Progress) (a : RowRead) (x : Row) (t : RelayTicked) (q : a ≡ Accepted x) (e : t ≡ ticked p x) where
   pub accepted-output : (out out' : List ℕ) (at : ℕ) → out' ≡ sets out at (wroteTick form p x t) → out' ≡ sets out at (noted form p a)
@@ -49,7 +59,7 @@ module _ (form : Form) (p : Progress) (a : RowRead) (x : Row) (t : RelayTicked) 
   accepted-noted r at h =
       h ∙ ap (λ (y : RelayTicked). notedOf (afterTick p y) (wroteTick form p x y) at) e ∙ sym (ap (λ (y : RowRead). notedOf (stepped p y) (noted form p y) at) q)
 
-module _ (form : Form) (p : Progress) (a : RowRead) (n : ℕ) (q : a ≡ Refused n) where
+module _ (form : Form) (p : Progress) (a : RowRead) (n : Refusal) (q : a ≡ Refused n) where
   pub refused-noted : (s : Progress) (at : ℕ) → s ≡ stopped n p → record { progress = s; written = at } ≡ notedOf (stepped p a) (noted form p a) at
   refused-noted s at e = let z : at + 0 ≡ at = omega arith in rw (q, e, z)
 
@@ -67,7 +77,7 @@ module _ (form : Form) (p : Progress) (l : List ℕ) (at : ℕ) where
       ∙ ap (λ (n : ℕ). record { progress = opened p (settingsLineAnswer l); written = n }) z
       ∙ ap (λ (g : Stage). notedOf (afterBy g p l) (wroteBy g form p l) at) (sym e)
 
-  pub stopped-noted : (n : ℕ) → p .stage ≡ Stopped n → record { progress = p; written = at } ≡ notedOf (afterLine p l) (wroteLine form p l) at
+  pub stopped-noted : (n : Refusal) → p .stage ≡ Stopped n → record { progress = p; written = at } ≡ notedOf (afterLine p l) (wroteLine form p l) at
   unfolding afterBy wroteBy
   stopped-noted n e =
       let z : at ≡ at + 0 = omega arith in
@@ -77,7 +87,7 @@ module _ (form : Form) (p : Progress) (l : List ℕ) (at : ℕ) where
   unfolding wroteBy
   opening-quiet out e = ap (λ (g : Stage). sets out at (wroteBy g form p l)) (sym e)
 
-  pub stopped-quiet : (out : List ℕ) (n : ℕ) → p .stage ≡ Stopped n → out ≡ sets out at (wroteLine form p l)
+  pub stopped-quiet : (out : List ℕ) (n : Refusal) → p .stage ≡ Stopped n → out ≡ sets out at (wroteLine form p l)
   unfolding wroteBy
   stopped-quiet out n e = ap (λ (g : Stage). sets out at (wroteBy g form p l)) (sym e)
 
@@ -89,3 +99,29 @@ module _ (form : Form) (p : Progress) (l : List ℕ) (at : ℕ) where
     pub running-noted : (r : Noted) → r ≡ notedOf (afterRow p l) (wroteRow form p l) at → r ≡ notedOf (afterLine p l) (wroteLine form p l) at
     unfolding afterBy wroteBy
     running-noted r q = q ∙ ap (λ (g : Stage). notedOf (afterBy g p l) (wroteBy g form p l) at) (sym e)
+
+-- ---- and where it writes nothing
+
+module _ (p : Progress) (l : List ℕ) where
+  pub opening-after : (s : Progress) → p .stage ≡ Opening → s ≡ opened p (settingsLineAnswer l) → s ≡ afterLine p l
+  unfolding afterBy
+  opening-after s e h = h ∙ ap (λ (g : Stage). afterBy g p l) (sym e)
+
+  pub running-after : (s : Progress) → p .stage ≡ Running → s ≡ afterRow p l → s ≡ afterLine p l
+  unfolding afterBy
+  running-after s e h = h ∙ ap (λ (g : Stage). afterBy g p l) (sym e)
+
+  pub stopped-after : (x : Refusal) → p .stage ≡ Stopped x → p ≡ afterLine p l
+  unfolding afterBy
+  stopped-after x e = ap (λ (g : Stage). afterBy g p l) (sym e)
+
+-- ---- a line of as many bytes as there are
+
+pub take-least : (n : ℕ) (s : List ℕ) → take (min n (length s)) s ≡ take n s
+take-least n s = by-length (leb n (length s)) refl
+  where
+    by-length : (t : Bool) → leb n (length s) ≡ t → take (min n (length s)) s ≡ take n s
+    by-length true e = let z : min n (length s) ≡ n = omega (arith, leb-true n (length s) e) in rw z
+    by-length false e =
+        let z : min n (length s) ≡ length s = omega (arith, leb-false n (length s) e) in
+        rw (z, take-length s) (sym (take-all n s (omega (arith, leb-false n (length s) e))))

@@ -14,6 +14,7 @@ use Rattle.rows.specs.declared.row.RowRead.{RowRead}
 use Rattle.rows.specs.declared.row.RowRead.the-variants as row-read
 use Rattle.rows.specs.declared.settings_line.SettingsRead.{SettingsRead}
 use Rattle.rows.specs.declared.settings_line.SettingsRead.the-variants as settings-line
+use Rattle.rows.specs.Refusal.{withoutPlace}
 use Rattle.rows.specs.Row.{rowAnswer}
 use Rattle.rows.specs.SettingsLine.{settingsLineAnswer}
 use Rattle.files.specs.declared.output.Form.the-variants.{Explain}
@@ -21,8 +22,8 @@ use Rattle.files.specs.declared.progress.Stage.{Stage}
 use Rattle.files.specs.declared.progress.Stage.the-variants.{Opening, Running, Stopped}
 use Rattle.files.specs.declared.progress.Progress.{Progress}
 use Rattle.files.specs.Output.{explainedOf}
-use Rattle.files.specs.Progress.{stopped, opened, ticked, rowDone, stepped, noted, refuseBy, afterBy, afterLine, wroteBy}
-use Rattle.files.specs.Replay.{byLines, afterLines, wroteLines, refuseIf}
+use Rattle.files.specs.Progress.{stopped, opened, ticked, rowDone, stepped, noted, afterBy, afterLine, wroteBy}
+use Rattle.files.specs.Replay.{byLines, afterLines, wroteLines}
 
 -- ---- rows done: a line does one row at most, and they never fall
 
@@ -33,56 +34,44 @@ pub record OneMore (before after : ℕ) : Type 0 where
 -- a settings line does none
 pub opened-done : (p : Progress) (answer : SettingsRead) → opened p answer .done ≡ p .done
 opened-done p (settings-line.Accepted x) = refl
-opened-done p (settings-line.Refused n) = refl
+opened-done p (settings-line.Refused x) = refl
 
-done-if : (b : Bool) (p : Progress) (t : RelayTicked) → OneMore (p .done) (cond b (rowDone p t) (stopped (t .refusal) p) .done)
+done-if : (b : Bool) (p : Progress) (t : RelayTicked) → OneMore (p .done) (cond b (rowDone p t) (stopped (withoutPlace (t .refusal)) p) .done)
 done-if true p t = record { low = omega arith; high = omega arith }
 done-if false p t = record { low = omega arith; high = omega arith }
 
 stepped-done : (p : Progress) (answer : RowRead) → OneMore (p .done) (stepped p answer .done)
 stepped-done p (row-read.Accepted x) = done-if (eqb (ticked p x .refusal) 0) p (ticked p x)
-stepped-done p (row-read.Refused n) = record { low = omega arith; high = omega arith }
+stepped-done p (row-read.Refused x) = record { low = omega arith; high = omega arith }
 
 pub line-done : (g : Stage) (p : Progress) (l : List ℕ) → OneMore (p .done) (afterBy g p l .done)
 unfolding afterBy
 line-done Opening p l = rw (opened-done p (settingsLineAnswer l)) (record { low = omega arith; high = omega arith })
 line-done Running p l = stepped-done p (rowAnswer l (p .done))
-line-done (Stopped n) p l = record { low = omega arith; high = omega arith }
+line-done (Stopped x) p l = record { low = omega arith; high = omega arith }
 
 pub lines-done : (p : Progress) (ls : List (List ℕ)) → p .done ≤ afterLines p ls .done
 unfolding afterLines
 lines-done p [] = omega arith
 lines-done p (l ∷ ls) = omega (arith, line-done (p .stage) p l .low, lines-done (afterLine p l) ls)
 
--- a refusal does no row
-refuse-done : (g : Stage) (p : Progress) → refuseBy g p .done ≡ p .done
-unfolding refuseBy
-refuse-done Opening p = refl
-refuse-done Running p = refl
-refuse-done (Stopped n) p = refl
-
-pub refuse-if-done : (b : Bool) (p : Progress) → refuseIf b p .done ≡ p .done
-unfolding refuseIf
-refuse-if-done true p = refuse-done (p .stage) p
-refuse-if-done false p = refl
-
 -- ---- a line that does not bring the rows done from below the asked row to it
 
 module _ (row : ℕ) where
   quiet-if : (b : Bool) (p : Progress) (x : Row) (t : RelayTicked)
-      → (p .done < row → cond b (rowDone p t) (stopped (t .refusal) p) .done < row) → cond b (explainedOf row p x) [] ≡ []
+      → (p .done < row → cond b (rowDone p t) (stopped (withoutPlace (t .refusal)) p) .done < row) → cond b (explainedOf row p x) [] ≡ []
   quiet-if true p x t h = rw (ne-eqb (p .done + 1) row (λ e. omega (arith, e, h (omega (arith, e)))))
   quiet-if false p x t h = refl
 
   quiet-row : (p : Progress) (answer : RowRead) → (p .done < row → stepped p answer .done < row) → noted (Explain row) p answer ≡ []
   quiet-row p (row-read.Accepted x) h = quiet-if (eqb (ticked p x .refusal) 0) p x (ticked p x) h
-  quiet-row p (row-read.Refused n) h = refl
+  quiet-row p (row-read.Refused y) h = refl
 
   quiet-line : (g : Stage) (p : Progress) (l : List ℕ) → (p .done < row → afterBy g p l .done < row) → wroteBy g (Explain row) p l ≡ []
   unfolding afterBy wroteBy
   quiet-line Opening p l h = refl
   quiet-line Running p l h = quiet-row p (rowAnswer l (p .done)) h
-  quiet-line (Stopped n) p l h = refl
+  quiet-line (Stopped x) p l h = refl
 
   -- as long as it is not done
   pub quiet-before : (p : Progress) (ls : List (List ℕ)) → afterLines p ls .done < row → wroteLines (Explain row) p ls ≡ []

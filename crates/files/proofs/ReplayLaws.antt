@@ -15,16 +15,22 @@ use Rattle.files.specs.declared.configuration.Configuration.the-variants
 use Rattle.files.specs.declared.output.Form.{Form}
 use Rattle.files.specs.declared.output.Form.the-variants.{Changes, Record}
 use Rattle.files.specs.declared.progress.Progress.{Progress}
-use Rattle.text.specs.Line.{numbersOf}
+use Rattle.text.specs.declared.fault.Shape.the-variants.{Wrong}
+use Rattle.text.specs.Line.{isLf, fieldsIn, numbersOf}
+use Rattle.text.specs.Fault.{countOf, lastOf, digitsIn, sinceCr, faultsFrom, lowestOf, told, shapeOf}
 use Rattle.rows.specs.SettingsLine.{settingsWidths, settingsIn, settingsLineRefusal, settingsLineAnswer}
 use Rattle.files.specs.Configuration.{lastRefusal}
 use Rattle.files.specs.Output.{endLine}
 use Rattle.text.specs.declared.lines.Closer.the-variants.{CrLf}
 use Rattle.text.specs.Lines.{linesOf}
-use Rattle.rows.specs.Refusals.{wrongShape}
+use Rattle.rows.specs.declared.refusal.Refusal.{Refusal}
+use Rattle.rows.specs.declared.refusal.Hint.the-variants.{None}
+use Rattle.rows.specs.Refusals.{noDigit}
+use Rattle.rows.specs.Refusal.{misshapen}
 use Rattle.files.specs.Progress.{freshProgress, stopped, opened, afterBy, afterLine, wroteBy, stageRefusal}
 use Rattle.files.specs.Replay.{Told, endAlone, byLines, toldOf, notesAndEnd, replayOf, recordOf}
-use Rattle.rows.proofs.SettingsLineLaws.{settings-refused, settings-misshapen, settings-answer, settings-line-passed}
+use Rattle.rows.proofs.SettingsLineLaws.{settings-by, settings-refused, settings-answer, settings-line-passed}
+use Rattle.rows.proofs.AnswerNumbers.{flaw-refused}
 use Rattle.files.proofs.RefusedLaws.{open-misshapen, stopped-ends}
 use Rattle.text.proofs.CutLaws.{lines-nil, last-nothing, last-line}
 use Rattle.text.proofs.LinesLaws.{hasCrLf, has-ends, open-input, line-first}
@@ -50,48 +56,58 @@ pub record-ends-as-replay : (s : List ℕ) → toldOf Record Absent s .end ≡ t
 unfolding toldOf
 record-ends-as-replay s = same-end (freshProgress Absent) (linesOf CrLf s)
 
-lines-one : (l : List ℕ) → settingsLineRefusal l ≡ 0 → linesOf CrLf l ≡ l ∷ []
+lines-one : (l : List ℕ) → settingsLineRefusal l .number ≡ 0 → linesOf CrLf l ≡ l ∷ []
 lines-one l e =
     ap (linesOf CrLf) (sym (append-nil l)) ∙ line-first settingsWidths l [] (settings-line-passed l e .0) ∙ rw (lines-nil CrLf [], last-nothing)
 
 -- a configuration leaves every other refusal as it is
-pub kept-refusal : (c : Configuration) (done n : ℕ) → (n ≡ 0 → ⊥) → lastRefusal c done n ≡ n
-kept-refusal Absent done n k = refl
-kept-refusal (Given (config-read.Accepted last)) done n k = rw (ne-eqb n 0 k)
-kept-refusal (Given (config-read.Refused x)) done n k = refl
+pub kept-refusal : (c : Configuration) (done : ℕ) (x : Refusal) → (x .number ≡ 0 → ⊥) → lastRefusal c done x ≡ x
+kept-refusal Absent done x k = refl
+kept-refusal (Given (config-read.Accepted last)) done x k = rw (ne-eqb (x .number) 0 k)
+kept-refusal (Given (config-read.Refused y)) done x k = refl
+
+-- an empty line: "an empty input is one with no digit", at its end, in the first field
+pub empty-line : settingsLineRefusal [] ≡ record { number = noDigit; offset = 0; field = 1; hint = None }
+unfolding settingsLineRefusal shapeOf told faultsFrom lowestOf countOf lastOf fieldsIn digitsIn sinceCr isLf
+empty-line = refl
 
 module _ (form : Form) (c : Configuration) where
-  -- "an empty input (12)"
-  pub told-of-nothing : toldOf form c [] ≡ onlyEnd wrongShape
+  -- "an empty input is one with no digit"
+  pub told-of-nothing : toldOf form c [] ≡ onlyEnd noDigit
   unfolding toldOf byLines stageRefusal
-  told-of-nothing = rw (lines-nil CrLf [], last-nothing, kept-refusal c 0 wrongShape (λ e. omega arith))
+  told-of-nothing =
+      rw (lines-nil CrLf [], last-nothing, empty-line)
+      (ap (λ (x : Refusal). onlyEnd (x .number)) (kept-refusal c 0 (record { number = noDigit; offset = 0; field = 1; hint = None }) (λ e. omega arith)))
 
   -- the first line is the settings line
   pub opening : (l : List ℕ) (ls : List (List ℕ)) → byLines form (freshProgress c) (l ∷ ls) ≡ byLines form (opened (freshProgress c) (settingsLineAnswer l)) ls
   unfolding byLines afterBy wroteBy
   opening l ls = refl
 
-  stopped-end : (n : ℕ) → (n ≡ 0 → ⊥) → endAlone (stopped n (freshProgress c)) ≡ onlyEnd n
+  stopped-end : (x : Refusal) → (x .number ≡ 0 → ⊥) → endAlone (stopped x (freshProgress c)) ≡ onlyEnd (x .number)
   unfolding stageRefusal
-  stopped-end n k = ap onlyEnd (kept-refusal c 0 n k)
+  stopped-end x k = ap (λ (y : Refusal). onlyEnd (y .number)) (kept-refusal c 0 x k)
 
-  refused-opening : (l : List ℕ) (ls : List (List ℕ)) (n : ℕ) → settingsLineRefusal l ≡ n → (n ≡ 0 → ⊥) → byLines form (freshProgress c) (l ∷ ls) ≡ onlyEnd n
-  refused-opening l ls n e k =
+  refused-opening : (l : List ℕ) (ls : List (List ℕ)) (x : Refusal) → settingsLineRefusal l ≡ x → (x .number ≡ 0 → ⊥) → byLines form (freshProgress c) (l ∷ ls) ≡ onlyEnd (x .number)
+  refused-opening l ls x e k =
       opening l ls
-      ∙ ap (λ (a : SettingsRead). byLines form (opened (freshProgress c) a) ls) (sym (settings-refused l n e k))
-      ∙ stopped-ends form (stopped n (freshProgress c)) n ls refl
-      ∙ stopped-end n k
+      ∙ ap (λ (a : SettingsRead). byLines form (opened (freshProgress c) a) ls) (sym (settings-refused l x e k))
+      ∙ stopped-ends form (stopped x (freshProgress c)) x ls refl
+      ∙ stopped-end x k
 
   -- "A refused settings line .. gives only `end,0,` and the number", whatever follows
-  pub told-of-refused-settings : (s l : List ℕ) (ls : List (List ℕ)) (n : ℕ) → linesOf CrLf s ≡ l ∷ ls → settingsLineRefusal l ≡ n → (n ≡ 0 → ⊥)
-      → toldOf form c s ≡ onlyEnd n
+  pub told-of-refused-settings : (s l : List ℕ) (ls : List (List ℕ)) (x : Refusal) → linesOf CrLf s ≡ l ∷ ls → settingsLineRefusal l ≡ x → (x .number ≡ 0 → ⊥)
+      → toldOf form c s ≡ onlyEnd (x .number)
   unfolding toldOf
-  told-of-refused-settings s l ls n e h k = ap (byLines form (freshProgress c)) e ∙ refused-opening l ls n h k
+  told-of-refused-settings s l ls x e h k = ap (byLines form (freshProgress c)) e ∙ refused-opening l ls x h k
 
-  -- an input without CR LF, such as a settings line that is not closed
-  pub told-of-open-line : (s : List ℕ) → 0 < length s → hasCrLf s ≡ false → toldOf form c s ≡ onlyEnd wrongShape
+  -- an input without CR LF, such as a settings line that is not closed: the fault of that line
+  pub told-of-open-line : (s : List ℕ) → 0 < length s → hasCrLf s ≡ false → toldOf form c s ≡ onlyEnd (settingsLineRefusal s .number)
   told-of-open-line s h k =
-      told-of-refused-settings s s [] wrongShape (open-input s k ∙ last-line s h) (settings-misshapen s (open-misshapen s (has-ends s k) .no-settings)) (λ e. omega arith)
+      let wrong = open-misshapen s (has-ends s k) .no-settings in
+      let refusal = settings-by s (Wrong (wrong .fault)) (wrong .shape) in
+      told-of-refused-settings s s [] (misshapen (length settingsWidths) s (wrong .fault)) (open-input s k ∙ last-line s h) refusal (flaw-refused (wrong .fault .flaw))
+      ∙ ap (λ (x : Refusal). onlyEnd (x .number)) (sym refusal)
 
 module _ (form : Form) where
   end-running : (l : List ℕ) → byLines form (opened (freshProgress Absent) (Accepted (settingsIn (numbersOf l)))) [] ≡ onlyEnd 0
@@ -99,7 +115,7 @@ module _ (form : Form) where
   end-running l = refl
 
   -- an accepted settings line alone
-  pub told-of-settings-alone : (l : List ℕ) → settingsLineRefusal l ≡ 0 → toldOf form Absent l ≡ onlyEnd 0
+  pub told-of-settings-alone : (l : List ℕ) → settingsLineRefusal l .number ≡ 0 → toldOf form Absent l ≡ onlyEnd 0
   unfolding toldOf
   told-of-settings-alone l e =
       ap (byLines form (freshProgress Absent)) (lines-one l e)

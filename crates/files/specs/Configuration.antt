@@ -7,17 +7,20 @@ use Rattle.files.specs.declared.configuration.Configuration.{Configurati
 use Rattle.files.specs.declared.configuration.Configuration.the-variants.{Absent, Given}
 use Rattle.files.specs.declared.progress.Stage.{Stage}
 use Rattle.files.specs.declared.progress.Stage.the-variants.{Running, Stopped}
+use Rattle.rows.specs.declared.refusal.Refusal.{Refusal}
+use Rattle.rows.specs.Refusal.{withoutPlace}
 use Rattle.files.specs.Refusals.{wrongLastSample}
 
 -- "In the replay a refused file gives only `end,0,` and its number, looked at after the settings line."
 abbrev pub afterSettings : Configuration → Stage
 afterSettings Absent = Running
 afterSettings (Given (Accepted last)) = Running
-afterSettings (Given (Refused x)) = Stopped (x .refusal)
+afterSettings (Given (Refused x)) = Stopped (withoutPlace (x .refusal))
 
--- "The last sample number must equal the rows done, else an end line that would carry 0 carries 28": by the rows done and the
--- number that it would carry
-abbrev pub lastRefusal : Configuration → ℕ → ℕ → ℕ
+-- "The last sample number must equal the rows done, else an end line that would carry 0 carries 28": by the rows done and what it
+-- would carry
+abbrev pub lastRefusal : Configuration → ℕ → Refusal → Refusal
 lastRefusal Absent done refusal = refusal
-lastRefusal (Given (Accepted last)) done refusal = cond (eqb refusal 0) (cond (eqb last done) 0 wrongLastSample) refusal
+lastRefusal (Given (Accepted last)) done refusal =
+    cond (eqb (refusal .number) 0) (cond (eqb last done) refusal (withoutPlace wrongLastSample)) refusal
 lastRefusal (Given (Refused x)) done refusal = refusal

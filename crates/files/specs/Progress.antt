@@ -18,9 +18,10 @@ use Rattle.files.specs.declared.output.Form.{Form}
 use Rattle.files.specs.declared.progress.Stage.{Stage}
 use Rattle.files.specs.declared.progress.Stage.the-variants.{Opening, Running, Stopped}
 use Rattle.files.specs.declared.progress.Progress.{Progress}
-use Rattle.rows.specs.Refusals.{wrongShape}
+use Rattle.rows.specs.declared.refusal.Refusal.{Refusal}
+use Rattle.rows.specs.Refusal.{withoutPlace, accepted}
 use Rattle.rows.specs.Row.{rowAnswer}
-use Rattle.rows.specs.SettingsLine.{settingsLineAnswer}
+use Rattle.rows.specs.SettingsLine.{settingsLineRefusal, settingsLineAnswer}
 use Rattle.files.specs.Configuration.{afterSettings, lastRefusal}
 use Rattle.files.specs.Output.{noteOf, endLine}
 
@@ -48,10 +49,10 @@ freshProgress c = record {
 }
 
 -- "After a refusal it stops."
-abbrev pub stopped : ℕ → Progress → Progress
-stopped n p = record {
+abbrev pub stopped : Refusal → Progress → Progress
+stopped x p = record {
   configuration = p .configuration;
-  stage = Stopped n;
+  stage = Stopped x;
   settings = p .settings;
   relay = p .relay;
   done = p .done;
@@ -68,7 +69,7 @@ opened p (settings-line.Accepted x) = record {
   done = p .done;
   outputs = p .outputs;
 }
-opened p (settings-line.Refused n) = stopped n p
+opened p (settings-line.Refused x) = stopped x p
 
 -- the tick of a row: the relay's decision on its currents and block, from the state that the rows before left
 abbrev pub ticked : Progress → Row → RelayTicked
@@ -87,12 +88,12 @@ rowDone p t = record {
 
 -- a refused tick stops the replay too: `no-tick-refused` says that none is met from the fresh start
 abbrev pub afterTick : Progress → RelayTicked → Progress
-afterTick p t = cond (eqb (t .refusal) 0) (rowDone p t) (stopped (t .refusal) p)
+afterTick p t = cond (eqb (t .refusal) 0) (rowDone p t) (stopped (withoutPlace (t .refusal)) p)
 
 -- a row, accepted or refused: only an accepted one ticks
 abbrev pub stepped : Progress → RowRead → Progress
 stepped p (row.Accepted x) = afterTick p (ticked p x)
-stepped p (row.Refused n) = stopped n p
+stepped p (row.Refused x) = stopped x p
 
 -- what the tick of a row writes: only one that is done writes anything
 abbrev pub wroteTick : Form → Progress → Row → RelayTicked → List ℕ
@@ -100,7 +101,7 @@ wroteTick form p x t = cond (eqb (t .refusal) 0) (noteOf form p x t) []
 
 abbrev pub noted : Form → Progress → RowRead → List ℕ
 noted form p (row.Accepted x) = wroteTick form p x (ticked p x)
-noted form p (row.Refused n) = []
+noted form p (row.Refused x) = []
 
 abbrev pub afterRow : Progress → List ℕ → Progress
 afterRow p l = stepped p (rowAnswer l (p .done))
@@ -113,7 +114,7 @@ wroteRow form p l = noted form p (rowAnswer l (p .done))
 unfoldable pub afterBy : Stage → Progress → List ℕ → Progress
 afterBy Opening p l = opened p (settingsLineAnswer l)
 afterBy Running p l = afterRow p l
-afterBy (Stopped n) p l = p
+afterBy (Stopped x) p l = p
 
 abbrev pub afterLine : Progress → List ℕ → Progress
 afterLine p l = afterBy (p .stage) p l
@@ -121,32 +122,23 @@ afterLine p l = afterBy (p .stage) p l
 unfoldable pub wroteBy : Stage → Form → Progress → List ℕ → List ℕ
 wroteBy Opening form p l = []
 wroteBy Running form p l = wroteRow form p l
-wroteBy (Stopped n) form p l = []
+wroteBy (Stopped x) form p l = []
 
 abbrev pub wroteLine : Form → Progress → List ℕ → List ℕ
 wroteLine form p l = wroteBy (p .stage) form p l
 
--- a line that is of wrong shape, whatever follows
-unfoldable pub refuseBy : Stage → Progress → Progress
-refuseBy Opening p = stopped wrongShape p
-refuseBy Running p = stopped wrongShape p
-refuseBy (Stopped n) p = p
-
-abbrev pub refuse : Progress → Progress
-refuse p = refuseBy (p .stage) p
-
 -- ---- the end
 
--- the refusal number by the lines alone; "an empty input (12)" has no settings line
-unfoldable pub stageRefusal : Stage → ℕ
-stageRefusal Opening = wrongShape
-stageRefusal Running = 0
-stageRefusal (Stopped n) = n
+-- the refusal by the lines alone; an empty input has no settings line, and "an empty input is one with no digit"
+unfoldable pub stageRefusal : Stage → Refusal
+stageRefusal Opening = settingsLineRefusal []
+stageRefusal Running = accepted
+stageRefusal (Stopped x) = x
 
--- the refusal number, with the configuration's last sample number
-abbrev pub endRefusal : Progress → ℕ
+-- the refusal, with the configuration's last sample number
+abbrev pub endRefusal : Progress → Refusal
 endRefusal p = lastRefusal (p .configuration) (p .done) (stageRefusal (p .stage))
 
 -- "then the end line: `end`, rows done, the refusal number"
 abbrev pub endOf : Progress → List ℕ
-endOf p = endLine (p .done) (endRefusal p)
+endOf p = endLine (p .done) (endRefusal p .number)

@@ -12,6 +12,7 @@ use Rattle.text.specs.declared.lines.Closer.the-variants.{CrLf}
 use Rattle.text.specs.Lines.{linesOf, Cutting, cutting}
 use Rattle.text.specs.Cutter.{emptyCutter, heldLine, cutterAfter}
 use Rattle.config.specs.Config.{configOf}
+use Rattle.rows.specs.declared.refusal.Refusal.{Refusal}
 use Rattle.files.specs.declared.configuration.Configuration.{Configuration}
 use Rattle.files.specs.declared.configuration.Configuration.the-variants.{Absent, Given}
 use Rattle.files.specs.declared.output.Form.{Form}
@@ -22,7 +23,7 @@ use Rattle.files.specs.declared.progress.Progress.{Progress}
 use Rattle.files.specs.declared.replay.Replay.{Replay}
 use Rattle.files.specs.declared.replay.Fed.{Fed}
 use Rattle.files.specs.Output.{spread, endRoom}
-use Rattle.files.specs.Progress.{freshProgress, refuse, afterLine, wroteLine, endRefusal, endOf}
+use Rattle.files.specs.Progress.{freshProgress, afterLine, wroteLine, endRefusal, endOf}
 
 -- ---- the whole input
 
@@ -71,14 +72,15 @@ explanationOf row s = toldOf (Explain row) Absent s .notes
 abbrev pub longestLine : ℕ
 longestLine = 45
 
--- a line of one byte more is of wrong shape, wherever it ends
+-- a line of one byte more is of wrong shape, wherever it ends, and its first bytes tell the fault: `long-front-decides` of `text`
 abbrev pub lineLimit : ℕ
 lineLimit = longestLine + 1
 
 abbrev pub freshReplay : Form → Configuration → Replay
 freshReplay form c = record { form = form; progress = freshProgress c; cutter = emptyCutter }
 
--- ---- a portion: the lines that it closes, one after the other, and the line that it leaves begun
+-- ---- a portion: the lines that it closes, one after the other; one that is too long, as far as it was read; and the line that
+-- it leaves begun
 
 unfoldable pub afterLines : Progress → List (List ℕ) → Progress
 afterLines p [] = p
@@ -88,10 +90,12 @@ unfoldable pub wroteLines : Form → Progress → List (List ℕ) → List ℕ
 wroteLines form p [] = []
 wroteLines form p (l ∷ ls) = wroteLine form p l ++ wroteLines form (afterLine p l) ls
 
--- a line that is too long, or that the end of the input leaves open, is of wrong shape
-unfoldable pub refuseIf : Bool → Progress → Progress
-refuseIf true p = refuse p
-refuseIf false p = p
+unfoldable pub withLong : Bool → List (List ℕ) → List ℕ → List (List ℕ)
+withLong true ls held = ls ++ (held ∷ [])
+withLong false ls held = ls
+
+abbrev pub linesIn : Cutting → List (List ℕ)
+linesIn x = withLong (x .tooLong) (x .lines) (x .held)
 
 abbrev pub cutPortion : Replay → List ℕ → Cutting
 cutPortion r s = cutting CrLf lineLimit (heldLine (r .cutter)) s
@@ -99,7 +103,7 @@ cutPortion r s = cutting CrLf lineLimit (heldLine (r .cutter)) s
 abbrev pub fedCut : Replay → List ℕ → Cutting → Replay
 fedCut r s x = record {
   form = r .form;
-  progress = refuseIf (x .tooLong) (afterLines (r .progress) (x .lines));
+  progress = afterLines (r .progress) (linesIn x);
   cutter = cutterAfter x (r .cutter) s;
 }
 
@@ -117,7 +121,7 @@ pub record Reached (begun r : Replay) : Type 0 where
   pub state : r ≡ fedAll begun portions
 
 unfoldable pub writes : Replay → List ℕ → List ℕ
-writes r s = wroteLines (r .form) (r .progress) (cutPortion r s .lines)
+writes r s = wroteLines (r .form) (r .progress) (linesIn (cutPortion r s))
 
 -- the room that a portion's output needs at most, by the bytes held and read
 abbrev pub portionRoom : Form → ℕ → ℕ → ℕ
@@ -147,14 +151,19 @@ feedWrites r s room = writesIf (takes (r .form) (r .cutter .count) (length s) ro
 
 -- ---- the end of the input
 
+-- a line that has begun is the last line
+unfoldable pub afterIf : Bool → Progress → List ℕ → Progress
+afterIf true p l = afterLine p l
+afterIf false p l = p
+
 abbrev pub lastProgress : Replay → Progress
-lastProgress r = refuseIf (ltb 0 (r .cutter .count)) (r .progress)
+lastProgress r = afterIf (ltb 0 (r .cutter .count)) (r .progress) (heldLine (r .cutter))
 
 abbrev pub endsWith : Replay → List ℕ
 endsWith r = endOf (lastProgress r)
 
--- the refusal number of the end line
-abbrev pub refusalAtEnd : Replay → ℕ
+-- what the end line tells the number of
+abbrev pub refusalAtEnd : Replay → Refusal
 refusalAtEnd r = endRefusal (lastProgress r)
 
 -- nothing is written where the output has less room than any end line may need
@@ -169,7 +178,7 @@ finishWrites r room = finishIf (leb endRoom room) r
 abbrev pub isStopped : Stage → Bool
 isStopped Opening = false
 isStopped Running = false
-isStopped (Stopped n) = true
+isStopped (Stopped x) = true
 
 -- whether the rows done have come to the asked one: no row after it writes anything
 abbrev pub isAnswered : Form → ℕ → Bool

@@ -6,6 +6,8 @@ ghost use Rattle.files.specs.Configuration.{afterSettings, lastRefusal};
 use crate::progress::Stage;
 use crate::refusals::WRONG_LAST_SAMPLE;
 use config::ConfigRead;
+use rows::Refusal;
+use rows::refuse;
 
 // None, or what the reader of one answered.
 pub enum Configuration {
@@ -21,26 +23,26 @@ pub(crate) fn after_settings(configuration: Configuration) -> Stage
         Configuration::Absent => Stage::Running,
         Configuration::Given(answer) => match answer {
             ConfigRead::Accepted(_) => Stage::Running,
-            ConfigRead::Refused(fault) => Stage::Stopped(fault.refusal),
+            ConfigRead::Refused(fault) => Stage::Stopped(refuse(fault.refusal)),
         },
     }
 }
 
 // With the last sample number of an accepted configuration.
-fn checked_last(last: u64, done: u32, refusal: u32) -> u32
+fn checked_last(last: u64, done: u32, refusal: Refusal) -> Refusal
     ensures { λ r. ⌜ r ≡ lastRefusal (Given (Accepted last)) done refusal ⌝ }
 {
-    if refusal != 0 {
+    if refusal.number != 0 {
         return refusal;
     }
     if last == done as u64 {
-        return 0;
+        return refusal;
     }
-    WRONG_LAST_SAMPLE
+    refuse(WRONG_LAST_SAMPLE)
 }
 
-// The number of an end line that would carry `refusal`, after so many rows done.
-pub(crate) fn last_refusal(configuration: Configuration, done: u32, refusal: u32) -> u32
+// What an end line tells that would tell `refusal`, after so many rows done.
+pub(crate) fn last_refusal(configuration: Configuration, done: u32, refusal: Refusal) -> Refusal
     ensures { λ r. ⌜ r ≡ lastRefusal configuration done refusal ⌝ }
 {
     match configuration {

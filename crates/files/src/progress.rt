@@ -1,11 +1,12 @@
 // The replay, line by line: the settings line, after which the configuration is looked at, then the rows.
 ghost use mathlib.Core.Path.{_≡_};
 ghost use mathlib.Core.List.{List};
-ghost use Prim.Native.Nat.{ℕ, _+_, _*_, _≤_};
-ghost use lib.ListN.{length};
+ghost use Prim.Native.Nat.{ℕ, _+_, _*_, _≤_, _<_, min};
+ghost use lib.ListN.{length, take};
+ghost use Rattle.rows.specs.Row.{lastRow};
 ghost use Rattle.rows.specs.SettingsLine.{settingsLineAnswer};
 ghost use Rattle.files.specs.Output.{noteRoom, spread, endRoom};
-ghost use Rattle.files.specs.Progress.{freshProgress, stopped, refuse, opened, stageRefusal, endRefusal, endOf};
+ghost use Rattle.files.specs.Progress.{freshProgress, stopped, opened, stageRefusal, endRefusal, endOf};
 ghost use Rattle.files.specs.Progress.{afterTick, wroteTick, afterRow, wroteRow, afterLine, wroteLine};
 ghost use Rattle.files.specs.device.Calls.{Notable, LineNoted};
 ghost use Rattle.text.specs.device.Calls.{WroteWithin};
@@ -18,18 +19,21 @@ use crate::output::put_end;
 use phase::Settings;
 use relay::RelayState;
 use relay::tick::RelayTicked;
+use rows::Hint;
+use rows::Refusal;
 use rows::Row;
 use rows::RowRead;
 use rows::SettingsRead;
 use rows::read_row;
 use rows::read_settings_line;
-use rows::refusals::WRONG_SHAPE;
+use rows::refusals::NO_DIGIT;
+use rows::refuse;
 
-// What the next line is to be; after a refusal, its number.
+// What the next line is to be; after a refusal, what was refused.
 pub enum Stage {
     Opening,
     Running,
-    Stopped(u32),
+    Stopped(Refusal),
 }
 
 // The configuration, the stage, the settings, the relay's state, the rows done, and the output byte of the last.
@@ -73,7 +77,7 @@ impl Progress {
     }
 }
 
-fn stop(p: Progress, refusal: u32) -> Progress
+fn stop(p: Progress, refusal: Refusal) -> Progress
     ensures { λ r. ⌜ r ≡ stopped refusal p ⌝ }
 {
     let configuration = p.configuration;
@@ -86,18 +90,6 @@ fn stop(p: Progress, refusal: u32) -> Progress
         relay,
         done: p.done,
         outputs: p.outputs,
-    }
-}
-
-// A line that is of wrong shape, whatever follows.
-pub(crate) fn refuse_shape(p: Progress) -> Progress
-    ensures { λ r. ⌜ r ≡ refuse p ⌝ }
-{
-    let stage = p.stage;
-    match stage {
-        Stage::Opening => stop(p, WRONG_SHAPE),
-        Stage::Running => stop(p, WRONG_SHAPE),
-        Stage::Stopped(_) => p,
     }
 }
 
@@ -119,35 +111,44 @@ fn on_settings_line(p: Progress, line: &[u8]) -> Progress
                 outputs: p.outputs,
             }
         }
-        SettingsRead::Refused(n) => stop(p, n),
+        SettingsRead::Refused(refusal) => stop(p, refusal),
     }
 }
 
 // The tick of an accepted row: the row is done where the tick is accepted; else the replay stops.
+fn after_tick(p: Progress, t: RelayTicked) -> Progress
+    requires { ⌜ p .done < lastRow ⌝ }
+    ensures { λ r. ⌜ r ≡ afterTick p t ⌝ }
+{
+    if t.refusal != 0 {
+        return stop(p, refuse(t.refusal));
+    }
+    let configuration = p.configuration;
+    let settings = p.settings;
+    let relay = t.state;
+    Progress {
+        configuration,
+        stage: Stage::Running,
+        settings,
+        relay,
+        done: p.done + 1,
+        outputs: t.outputs,
+    }
+}
+
+// A row done writes a note.
 fn on_tick(form: Form, p: Progress, x: Row, t: RelayTicked, out: &mut [u8], at: usize) -> Noted
     requires { ⌜ Notable form (p .done) x at (length (now out)) ⌝ }
     ensures { λ r. ⌜ LineNoted (noteRoom form) (now (out .entry)) (now (out .exit)) at (afterTick p t) (wroteTick form p x t) r ⌝ }
 {
+    let progress = after_tick(p, t);
     if t.refusal != 0 {
-        let progress = stop(p, t.refusal);
         return Noted {
             progress,
             written: at,
         };
     }
     let end = note_row(form, out, at, p, x, t);
-    let done = p.done + 1;
-    let configuration = p.configuration;
-    let settings = p.settings;
-    let relay = t.state;
-    let progress = Progress {
-        configuration,
-        stage: Stage::Running,
-        settings,
-        relay,
-        done,
-        outputs: t.outputs,
-    };
     Noted {
         progress,
         written: end,
@@ -167,8 +168,8 @@ fn on_row(form: Form, p: Progress, line: &[u8], out: &mut [u8], at: usize) -> No
             let t = relay::tick::tick(p.settings, p.relay, x.l1, x.l2, x.l3, x.block);
             on_tick(form, p, x, t, out, at)
         }
-        RowRead::Refused(n) => {
-            let progress = stop(p, n);
+        RowRead::Refused(refusal) => {
+            let progress = stop(p, refusal);
             Noted {
                 progress,
                 written: at,
@@ -201,19 +202,64 @@ pub(crate) fn on_line(form: Form, p: Progress, line: &[u8], out: &mut [u8], at: 
     }
 }
 
-// The refusal number by the lines alone: where no settings line came, its shape is wrong.
-fn stage_refusal(stage: Stage) -> u32
-    ensures { λ r. ⌜ r ≡ stageRefusal stage ⌝ }
+// A row that writes nothing.
+fn after_row(p: Progress, line: &[u8]) -> Progress
+    ensures { λ r. ⌜ r ≡ afterRow p (now (line .entry)) ⌝ }
 {
-    match stage {
-        Stage::Opening => WRONG_SHAPE,
-        Stage::Running => 0,
-        Stage::Stopped(n) => n,
+    let answer = read_row(line, p.done);
+    match answer {
+        RowRead::Accepted(x) => {
+            let t = relay::tick::tick(p.settings, p.relay, x.l1, x.l2, x.l3, x.block);
+            after_tick(p, t)
+        }
+        RowRead::Refused(refusal) => stop(p, refusal),
     }
 }
 
-// The refusal number of the end line.
-pub(crate) fn end_refusal(p: Progress) -> u32
+// A line that writes nothing.
+fn after_line(p: Progress, line: &[u8]) -> Progress
+    ensures { λ r. ⌜ r ≡ afterLine p (now (line .entry)) ⌝ }
+{
+    let stage = p.stage;
+    match stage {
+        Stage::Opening => on_settings_line(p, line),
+        Stage::Running => after_row(p, line),
+        Stage::Stopped(_) => p,
+    }
+}
+
+fn least(a: usize, b: usize) -> usize
+    ensures { λ r. ⌜ r ≡ min a b ⌝ }
+{
+    if a < b { a } else { b }
+}
+
+// The line of the first n bytes held, which writes nothing; of all of them, where there are fewer.
+pub(crate) fn after_held(p: Progress, held: &[u8], n: usize) -> Progress
+    ensures { λ r. ⌜ r ≡ afterLine p (take n (now (held .entry))) ⌝ }
+{
+    let end = least(n, held.len());
+    after_line(p, &held[..end])
+}
+
+// By the lines alone: where no settings line came, it is one with no digit.
+fn stage_refusal(stage: Stage) -> Refusal
+    ensures { λ r. ⌜ r ≡ stageRefusal stage ⌝ }
+{
+    match stage {
+        Stage::Opening => Refusal {
+            number: NO_DIGIT,
+            offset: 0,
+            field: 1,
+            hint: Hint::None,
+        },
+        Stage::Running => refuse(0),
+        Stage::Stopped(refusal) => refusal,
+    }
+}
+
+// What the end line tells the number of.
+pub(crate) fn end_refusal(p: Progress) -> Refusal
     ensures { λ r. ⌜ r ≡ endRefusal p ⌝ }
 {
     let configuration = p.configuration;
@@ -228,5 +274,5 @@ pub(crate) fn on_end(p: Progress, out: &mut [u8]) -> usize
     ensures { λ r. ⌜ WroteWithin endRoom (now (out .entry)) (now (out .exit)) 0 r (endOf p) ⌝ }
 {
     let refusal = end_refusal(p);
-    put_end(out, p.done, refusal)
+    put_end(out, p.done, refusal.number)
 }

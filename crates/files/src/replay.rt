@@ -17,10 +17,11 @@ use crate::output::RECORD_SPREAD;
 use crate::progress::Noted;
 use crate::progress::Progress;
 use crate::progress::Stage;
+use crate::progress::after_held;
 use crate::progress::end_refusal;
 use crate::progress::on_end;
 use crate::progress::on_line;
-use crate::progress::refuse_shape;
+use rows::Refusal;
 use text::cutter::Cutter;
 use text::lines::Closer;
 use text::lines::Cut;
@@ -113,7 +114,10 @@ fn feed_bytes(state: Replay, portion: &[u8], out: &mut [u8]) -> Fed
                 continue;
             }
             Cut::TooLong => {
-                return taken(form, refuse_shape(progress), Cutter::empty(), at);
+                let n = cutter.count;
+                let t = on_held(form, progress, &cutter.held, n, out, at);
+                let after = t.progress;
+                return taken(form, after, Cutter::empty(), t.written);
             }
         }
     }
@@ -165,7 +169,7 @@ pub fn feed(state: Replay, portion: &[u8], out: &mut [u8]) -> Fed
     }
 }
 
-// The progress at the end of the input: a line that has begun and is not closed is of wrong shape.
+// The progress at the end of the input: a line that has begun is the last line.
 fn last_progress(state: Replay) -> Progress
     ensures { λ r. ⌜ r ≡ lastProgress state ⌝ }
 {
@@ -174,11 +178,12 @@ fn last_progress(state: Replay) -> Progress
     if count == 0 {
         return progress;
     }
-    refuse_shape(progress)
+    let cutter = state.cutter;
+    after_held(progress, &cutter.held, count)
 }
 
-// The refusal number of the end line that `finish` writes.
-pub fn refusal_at_end(state: Replay) -> u32
+// What the end line that `finish` writes tells the number of.
+pub fn refusal_at_end(state: Replay) -> Refusal
     ensures { λ r. ⌜ r ≡ refusalAtEnd state ⌝ }
 {
     let last = last_progress(state);

@@ -12,6 +12,7 @@ use Rattle.text.specs.Number.{decimalIn}
 use Rattle.text.specs.Line.{rightShape, numbersOf, fitsIn, spelled}
 use Rattle.text.specs.Decimals.{decimals}
 use Rattle.rows.proofs.NumberedLaws.{numbered-rest, numbered-passed}
+use Rattle.text.proofs.RightLaws.{right-faultless, faultless-shape}
 use Rattle.text.proofs.ShapeLaws.{shape-most, fits-decimal}
 use Rattle.text.proofs.DecimalsLaws.{line-shaped, line-numbers, line-most}
 use Rattle.records.specs.declared.record_row.RecordRow.{RecordRow}
@@ -55,7 +56,7 @@ module _ (x : RecordRow) (fit : rowFits x ≡ true) where
   unfolding recordAnswer
   text-back byte =
       let next : x .number ≡ x .number - 1 + 1 = omega (arith, fits x fit .some) in
-      let told = numbered-rest recordWidths statusRefusal (recordText x) (x .number - 1) record-right (rw numbers-back next) in
+      let told = numbered-rest recordWidths statusRefusal (recordText x) (x .number - 1) (right-faultless recordWidths (recordText x) (omega arith) record-right) (rw numbers-back next) in
       rw (told, numbers-back, bits-are 8 (x .outputs), bits-back 8 (x .outputs) byte)
 
 -- the longest row
@@ -64,8 +65,9 @@ unfolding recordText spelled decimalIn
 most-reached = refl
 
 -- the longest line that the reader takes
-pub read-most : (s : List ℕ) (last : ℕ) → recordRefusal s last ≡ 0 → length s ≤ longestRead
-read-most s last e = omega (arith, shape-most recordWidths s (omega arith) (numbered-passed recordWidths statusRefusal s last e .shape))
+pub read-most : (s : List ℕ) (last : ℕ) → recordRefusal s last .number ≡ 0 → length s ≤ longestRead
+read-most s last e =
+    omega (arith, shape-most recordWidths s (omega arith) (faultless-shape recordWidths s (omega arith) (numbered-passed recordWidths statusRefusal s last e .shape)))
 
 -- a row that fits is accepted where the longest has room
 pub write-fits : (out : List ℕ) (at : ℕ) (x : RecordRow) → Fits x → at + longestRecord ≤ length out → writeAnswer out at x ≡ writtenAt out at (recordText x)

@@ -4,6 +4,8 @@ use mathlib.Core.List.{List, [], _∷_}
 use Prim.Native.Nat.{ℕ}
 use lib.Dec.{eqb}
 use lib.ListN.{getD, take, drop}
+use Rattle.rows.specs.declared.refusal.Refusal.{Refusal}
+use Rattle.rows.specs.Refusal.{accepted}
 use Rattle.rows.specs.Numbered.{numberedRefusal}
 use Rattle.text.specs.Line.{numbersOf}
 use Rattle.records.specs.declared.record_row.RecordRow.{RecordRow}
@@ -39,16 +41,16 @@ recordIn ns = record {
 abbrev pub statusRefusal : List ℕ → ℕ
 statusRefusal ns = cond (allBits (statusIn ns)) 0 wrongStatus
 
--- the lowest number that applies, after a row of number `last`: 12, 13, 14
-abbrev pub recordRefusal : List ℕ → ℕ → ℕ
+-- after a row of number `last`: by its shape, 13, 14
+abbrev pub recordRefusal : List ℕ → ℕ → Refusal
 recordRefusal s last = numberedRefusal recordWidths statusRefusal s last
 
 -- what the reader answers
 unfoldable pub recordAnswer : List ℕ → ℕ → RecordRead
 recordAnswer s last =
-    cond (eqb (recordRefusal s last) 0) (Accepted (recordIn (numbersOf s))) (Refused (recordRefusal s last))
+    cond (eqb (recordRefusal s last .number) 0) (Accepted (recordIn (numbersOf s))) (Refused (recordRefusal s last))
 
--- the paper's number for each case of the answer
-abbrev pub recordNumber : RecordRead → ℕ
-recordNumber (Accepted x) = 0
-recordNumber (Refused n) = n
+-- the paper's numbers for each case of the answer
+abbrev pub recordNumbers : RecordRead → Refusal
+recordNumbers (Accepted x) = accepted
+recordNumbers (Refused x) = x

@@ -1,35 +1,39 @@
 // Reads a row of the record back.
 ghost use mathlib.Core.Path.{_≡_};
-ghost use Rattle.records.specs.Reader.{recordRefusal, recordAnswer, recordNumber};
+ghost use Rattle.records.specs.Reader.{recordRefusal, recordAnswer, recordNumbers};
 use crate::record_row::RecordRow;
 use crate::refusals::WRONG_STATUS;
 use crate::status::read_status;
+use rows::Refusal;
 use rows::refusals::WRONG_NUMBER;
-use rows::refusals::WRONG_SHAPE;
-use text::line::read_line;
+use rows::refuse;
+use rows::refuse_shape;
+use text::fault::Shape;
+use text::reader::read_line;
 
 pub enum RecordRead {
     Accepted(RecordRow),
-    Refused(u32),
+    Refused(Refusal),
 }
 
 // Reads the row that these bytes are, after a row of number `last` (0 before the first).
 pub fn read_record_row(row: &[u8], last: u32) -> RecordRead
     ensures answer { λ r. ⌜ r ≡ recordAnswer (now (row .entry)) last ⌝ }
-    ensures number { λ r. ⌜ recordNumber r ≡ recordRefusal (now (row .entry)) last ⌝ }
+    ensures numbers { λ r. ⌜ recordNumbers r ≡ recordRefusal (now (row .entry)) last ⌝ }
 {
     let widths = [6usize, 10, 7, 7, 7, 1, 1, 1, 1, 1, 1, 1, 1];
     let line = read_line(row, &widths);
-    if !line.right {
-        return RecordRead::Refused(WRONG_SHAPE);
+    let shape = line.shape;
+    if let Shape::Wrong(fault) = shape {
+        return RecordRead::Refused(refuse_shape(row, fault, widths.len()));
     }
     let n = line.numbers;
     if n[0] != last as u64 + 1 {
-        return RecordRead::Refused(WRONG_NUMBER);
+        return RecordRead::Refused(refuse(WRONG_NUMBER));
     }
     let status = read_status(&n[5..13]);
     if !status.right {
-        return RecordRead::Refused(WRONG_STATUS);
+        return RecordRead::Refused(refuse(WRONG_STATUS));
     }
     RecordRead::Accepted(RecordRow {
         number: n[0] as u32,

@@ -8,3 +8,7 @@ pub(crate) fn say(text: &[u8]) {
 pub(crate) fn say_number(n: u32) {
     io::print_decimal(STDOUT_FILENO, n as u64);
 }
+
+pub(crate) fn say_place(n: usize) {
+    io::print_decimal(STDOUT_FILENO, n as u64);
+}

@@ -29,6 +29,18 @@ fn first_rows() {
     row(b"no bytes", b"", 0);
 }
 
+// A fault of each kind, and two at one place.
+fn misshapen_rows() {
+    row(b"no digit before CR", b"1,0,\r\n", 0);
+    row(b"a digit too many", b"1,0,12345678,x,0,0\r\n", 0);
+    row(b"a letter", b"1,0,0,0x0,0,0\r\n", 0);
+    row(b"a CR in the third field", b"1,0,0\r0,0,0,0\r\n", 0);
+    row(b"a comma after the last field", b"1,0,0,0,0,0,0\r\n", 0);
+    row(b"LF alone", b"1,0,0,0,0,0\n", 0);
+    row(b"CR alone", b"1,0,0,0,0,0\r", 0);
+    row(b"two CR", b"1,0,0,0,0,0\r\r\n", 0);
+}
+
 fn settings_lines() {
     settings_line(
         b"the largest settings",
@@ -46,6 +58,7 @@ fn settings_lines() {
 fn main() {
     later_rows();
     first_rows();
+    misshapen_rows();
     settings_lines();
     record::cases();
 }

@@ -1,6 +1,8 @@
 // The readers of a row and of the settings line, called by themselves.
 use crate::line::say;
 use crate::line::say_number;
+use crate::line::say_place;
+use rows::Refusal;
 use rows::Row;
 use rows::RowRead;
 use rows::SettingsRead;
@@ -19,9 +21,16 @@ fn say_row(row: Row) {
     say(b"\n");
 }
 
-pub(crate) fn say_refused(refusal: u32) {
+// The number, and of a wrong shape its place.
+pub(crate) fn say_refused(refusal: Refusal) {
     say(b": refused, ");
-    say_number(refusal);
+    say_number(refusal.number);
+    if refusal.field != 0 {
+        say(b", byte ");
+        say_place(refusal.offset);
+        say(b", field ");
+        say_place(refusal.field);
+    }
     say(b"\n");
 }
 
@@ -31,7 +40,7 @@ pub(crate) fn row(name: &[u8], bytes: &[u8], last: u32) {
     let answer = rows::read_row(bytes, last);
     match answer {
         RowRead::Accepted(x) => say_row(x),
-        RowRead::Refused(n) => say_refused(n),
+        RowRead::Refused(refusal) => say_refused(refusal),
     }
 }
 
@@ -40,6 +49,6 @@ pub(crate) fn settings_line(name: &[u8], bytes: &[u8]) {
     let answer = rows::read_settings_line(bytes);
     match answer {
         SettingsRead::Accepted(_) => say(b": accepted\n"),
-        SettingsRead::Refused(n) => say_refused(n),
+        SettingsRead::Refused(refusal) => say_refused(refusal),
     }
 }

@@ -66,7 +66,7 @@ fn read(name: &[u8], bytes: &[u8], last: u32) {
     let answer = records::read_record_row(bytes, last);
     match answer {
         RecordRead::Accepted(x) => say_record(x),
-        RecordRead::Refused(n) => say_refused(n),
+        RecordRead::Refused(refusal) => say_refused(refusal),
     }
 }
 

@@ -2,3 +2,4 @@ pub mod AnswerNumbers
 pub mod NumberedLaws
 pub mod RowLaws
 pub mod SettingsLineLaws
+pub mod FrontLaws

@@ -1,44 +1,67 @@
 -- From the line that was read to the refusal of a row that begins with its number.
 -- Assumes nothing.
-use mathlib.Core.Path.{_≡_, refl, sym, _∙_}
-use mathlib.Core.Bool.{true, false}
+use mathlib.Core.Path.{_≡_, refl, sym, ap, _∙_}
 use mathlib.Core.List.{List}
 use Prim.Native.Nat.{ℕ, _+_, _^_, _≤_, _<_}
 use lib.ListN.{length, getD}
 use borrow.Author.Tests.{eq-eqb, ne-eqb, eqb-true}
+use Rattle.checks.specs.Checks.{firstFailed}
 use Rattle.checks.proofs.PassedLaws.{all-passed}
-use Rattle.text.specs.declared.line.Line.{Line}
-use Rattle.text.specs.Line.{rightShape, numbersOf, lineAnswer, fieldLimit}
+use Rattle.text.specs.declared.fault.Fault.{Fault}
+use Rattle.text.specs.declared.fault.Shape.{Shape}
+use Rattle.text.specs.declared.fault.Shape.the-variants.{Right, Wrong}
+use Rattle.text.specs.declared.reader.Line.{Line}
+use Rattle.text.specs.Line.{numbersOf}
+use Rattle.text.specs.Fault.{shapeOf}
+use Rattle.text.specs.Reader.{lineAnswer, fieldLimit}
 use Rattle.text.proofs.LineLaws.{line-shape, line-number}
-use Rattle.rows.specs.Refusals.{wrongShape, wrongNumber}
+use Rattle.rows.specs.declared.refusal.Refusal.{Refusal}
+use Rattle.rows.specs.Refusals.{wrongNumber}
+use Rattle.rows.specs.Refusal.{misshapen, withoutPlace, accepted, lineRefusal}
 use Rattle.rows.specs.Numbered.{numberedChecks, numberedRefusal}
+use Rattle.rows.proofs.AnswerNumbers.{flaw-refused, no-refusal}
+
+-- a line that is not refused has the right shape, and numbers that are not refused
+pub line-passed : (fields : ℕ) (x : Shape) (s : List ℕ) (n : ℕ) → lineRefusal fields x s n .number ≡ 0 → (x ≡ Right) × (n ≡ 0)
+line-passed fields Right s n e = (refl, e)
+line-passed fields (Wrong f) s n e = absurd (flaw-refused (f .flaw) e)
 
 module _ (ws : List ℕ) (rest : List ℕ → ℕ) (s : List ℕ) (last : ℕ) where
-  pub numbered-misshapen : rightShape ws s ≡ false → numberedRefusal ws rest s last ≡ wrongShape
-  unfolding numberedRefusal
-  numbered-misshapen e = rw e
+  abbrev numbersRefusal : ℕ
+  numbersRefusal = firstFailed (numberedChecks (numbersOf s) last) (rest (numbersOf s))
 
-  pub numbered-rest : rightShape ws s ≡ true → getD (numbersOf s) 0 0 ≡ last + 1 → numberedRefusal ws rest s last ≡ rest (numbersOf s)
+  numbered-by : (x : Shape) → shapeOf ws s ≡ x → numberedRefusal ws rest s last ≡ lineRefusal (length ws) x s numbersRefusal
   unfolding numberedRefusal
-  numbered-rest e n = rw (e, eq-eqb (getD (numbersOf s) 0 0) (last + 1) n)
+  numbered-by x e = ap (λ (y : Shape). lineRefusal (length ws) y s numbersRefusal) e
+
+  pub numbered-misshapen : (f : Fault) → shapeOf ws s ≡ Wrong f → numberedRefusal ws rest s last ≡ misshapen (length ws) s f
+  numbered-misshapen f e = numbered-by (Wrong f) e
+
+  pub numbered-rest : shapeOf ws s ≡ Right → getD (numbersOf s) 0 0 ≡ last + 1 → numberedRefusal ws rest s last ≡ withoutPlace (rest (numbersOf s))
+  numbered-rest e n = numbered-by Right e ∙ rw (eq-eqb (getD (numbersOf s) 0 0) (last + 1) n)
+
+  pub numbered-none : numberedRefusal ws rest s last .number ≡ 0 → numberedRefusal ws rest s last ≡ accepted
+  unfolding numberedRefusal
+  numbered-none e = no-refusal (length ws) (shapeOf ws s) s numbersRefusal e
 
   -- what is not refused is of right shape, is the next, and has numbers that are not refused
   pub record NumberedPassed : Type 0 where
-    pub shape : rightShape ws s ≡ true
+    pub shape : shapeOf ws s ≡ Right
     pub next : getD (numbersOf s) 0 0 ≡ last + 1
     pub others : rest (numbersOf s) ≡ 0
 
-  pub numbered-passed : numberedRefusal ws rest s last ≡ 0 → NumberedPassed
+  pub numbered-passed : numberedRefusal ws rest s last .number ≡ 0 → NumberedPassed
   unfolding numberedRefusal
   numbered-passed none =
-      let ((shape, (next, end)), others) = all-passed (numberedChecks ws s last) (rest (numbersOf s)) refl none in
+      let (shape, numbers) = line-passed (length ws) (shapeOf ws s) s numbersRefusal none in
+      let ((next, end), others) = all-passed (numberedChecks (numbersOf s) last) (rest (numbersOf s)) refl numbers in
       record { shape = shape; next = eqb-true (getD (numbersOf s) 0 0) (last + 1) next; others = others }
 
   module _ (some : 1 ≤ length ws) (few : length ws ≤ fieldLimit) (r : Line) (e : r ≡ lineAnswer ws s) where
-    pub read-shape : r .right ≡ false → numberedRefusal ws rest s last ≡ wrongShape
-    read-shape t = numbered-misshapen (sym (line-shape ws s some r e) ∙ t)
+    pub read-shape : (f : Fault) → r .shape ≡ Wrong f → numberedRefusal ws rest s last ≡ misshapen (length ws) s f
+    read-shape f t = numbered-misshapen f (sym (line-shape ws s some r e) ∙ t)
 
-    module _ (t : r .right ≡ true) where
+    module _ (t : r .shape ≡ Right) where
       -- the number of field k, and that it fits
       pub read-at : (k : ℕ) → k < length ws → getD (r .numbers) k 0 ≡ getD (numbersOf s) k 0
       read-at k h = line-number ws s some r e t k few h .0
@@ -46,12 +69,11 @@ module _ (ws : List ℕ) (rest : List ℕ → ℕ) (s : List ℕ) (last : ℕ) w
       pub read-fits : (k : ℕ) → k < length ws → getD (r .numbers) k 0 < 10 ^ getD ws k 0
       read-fits k h = rw (read-at k h) (line-number ws s some r e t k few h .1)
 
-      right : rightShape ws s ≡ true
+      right : shapeOf ws s ≡ Right
       right = sym (line-shape ws s some r e) ∙ t
 
-      pub read-number : (getD (r .numbers) 0 0 ≡ last + 1 → ⊥) → numberedRefusal ws rest s last ≡ wrongNumber
-      unfolding numberedRefusal
-      read-number n = rw (right, ← read-at 0 some, ne-eqb (getD (r .numbers) 0 0) (last + 1) n)
+      pub read-number : (getD (r .numbers) 0 0 ≡ last + 1 → ⊥) → numberedRefusal ws rest s last ≡ withoutPlace wrongNumber
+      read-number n = numbered-by Right right ∙ rw (← read-at 0 some, ne-eqb (getD (r .numbers) 0 0) (last + 1) n)
 
-      pub read-rest : getD (r .numbers) 0 0 ≡ last + 1 → numberedRefusal ws rest s last ≡ rest (numbersOf s)
+      pub read-rest : getD (r .numbers) 0 0 ≡ last + 1 → numberedRefusal ws rest s last ≡ withoutPlace (rest (numbersOf s))
       read-rest n = numbered-rest right (sym (read-at 0 some) ∙ n)

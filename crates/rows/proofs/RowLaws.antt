@@ -8,19 +8,27 @@ use native.Mathlib.Omega.{arith}
 use lib.Dec.{leb}
 use lib.ListN.{length, getD}
 use borrow.Author.Tests.{le-leb, lt-leb, leb-true}
-use Rattle.text.specs.declared.line.Line.{Line}
+use Rattle.text.specs.declared.fault.Fault.{Fault}
+use Rattle.text.specs.declared.fault.Shape.{Shape}
+use Rattle.text.specs.declared.fault.Shape.the-variants.{Right, Wrong}
+use Rattle.text.specs.declared.reader.Line.{Line}
 use Rattle.rows.specs.declared.row.Row.{Row}
 use Rattle.rows.specs.declared.row.RowRead.{RowRead}
 use Rattle.rows.specs.declared.row.RowRead.the-variants.{Accepted, Refused}
-use Rattle.text.specs.Line.{rightShape, numbersOf, lineAnswer, fitsIn}
+use Rattle.text.specs.Line.{rightShape, numbersOf, fitsIn}
+use Rattle.text.specs.Fault.{shapeOf}
+use Rattle.text.specs.Reader.{lineAnswer}
 use Rattle.text.specs.Decimals.{decimals, lineOf}
 use Rattle.text.specs.device.Calls.{Readable}
 use Rattle.relay.specs.Refusals.{wrongBlock}
-use Rattle.rows.specs.Refusals.{wrongShape, wrongNumber}
-use Rattle.rows.specs.Row.{lastRow, largestCurrent, rowWidths, rowOf, blockRefusal, rowRefusal, rowAnswer, rowNumber}
+use Rattle.rows.specs.declared.refusal.Refusal.{Refusal}
+use Rattle.rows.specs.Refusals.{wrongNumber}
+use Rattle.rows.specs.Refusal.{misshapen, withoutPlace}
+use Rattle.rows.specs.Row.{lastRow, largestCurrent, rowWidths, rowOf, blockRefusal, rowRefusal, rowAnswer, rowNumbers}
 use Rattle.checks.proofs.Cases.{by-cond}
-use Rattle.rows.proofs.AnswerNumbers.{answer-number, answer-refused}
-use Rattle.rows.proofs.NumberedLaws.{numbered-misshapen, numbered-rest, numbered-passed, read-shape, read-at, read-fits, read-number, read-rest}
+use Rattle.rows.proofs.AnswerNumbers.{flaw-refused, answer-numbers, answer-refused}
+use Rattle.rows.proofs.NumberedLaws.{numbered-misshapen, numbered-rest, numbered-none, numbered-passed, read-shape, read-at, read-fits, read-number, read-rest}
+use Rattle.text.proofs.RightLaws.{right-faultless, faultless-shape}
 use Rattle.text.proofs.ShapeLaws.{shape-least, number-below, fits-none, fits-decimal}
 use Rattle.text.proofs.DecimalsLaws.{line-shaped, line-numbers}
 
@@ -30,39 +38,39 @@ row-readable = record { some = omega arith; few = omega arith; each = refl }
 -- ---- the answer, by the tests
 
 -- both clauses of the reader's contract
-pub row-told : (r : RowRead) (s : List ℕ) (last : ℕ) → r ≡ rowAnswer s last → (r ≡ rowAnswer s last) × (rowNumber r ≡ rowRefusal s last)
+pub row-told : (r : RowRead) (s : List ℕ) (last : ℕ) → r ≡ rowAnswer s last → (r ≡ rowAnswer s last) × (rowNumbers r ≡ rowRefusal s last)
 unfolding rowAnswer
 row-told r s last e =
-    (e, ap rowNumber e ∙ answer-number rowNumber (rowRefusal s last) (Accepted (rowOf (numbersOf s))) (Refused (rowRefusal s last)) refl refl)
+    (e, ap rowNumbers e ∙ answer-numbers rowNumbers (rowRefusal s last) (Accepted (rowOf (numbersOf s))) (Refused (rowRefusal s last)) (numbered-none rowWidths blockRefusal s last) refl refl)
 
 module _ (s : List ℕ) (last : ℕ) where
-  row-refused : (n : ℕ) → rowRefusal s last ≡ n → (n ≡ 0 → ⊥) → Refused n ≡ rowAnswer s last
+  row-refused : (x : Refusal) → rowRefusal s last ≡ x → (x .number ≡ 0 → ⊥) → Refused x ≡ rowAnswer s last
   unfolding rowAnswer
-  row-refused n e k = answer-refused Refused (Accepted (rowOf (numbersOf s))) (rowRefusal s last) n e k
+  row-refused x e k = answer-refused Refused (Accepted (rowOf (numbersOf s))) (rowRefusal s last) x e k
 
   module _ (r : Line) (e : r ≡ lineAnswer rowWidths s) where
-    pub row-shape : r .right ≡ false → Refused wrongShape ≡ rowAnswer s last
-    row-shape t = row-refused wrongShape (read-shape rowWidths blockRefusal s last (omega arith) (omega arith) r e t) (λ k. omega arith)
+    pub row-shape : (f : Fault) → r .shape ≡ Wrong f → Refused (misshapen (length rowWidths) s f) ≡ rowAnswer s last
+    row-shape f t = row-refused (misshapen (length rowWidths) s f) (read-shape rowWidths blockRefusal s last (omega arith) (omega arith) r e f t) (flaw-refused (f .flaw))
 
-    module _ (t : r .right ≡ true) where
+    module _ (t : r .shape ≡ Right) where
       row-at : (k : ℕ) → k < length rowWidths → getD (r .numbers) k 0 ≡ getD (numbersOf s) k 0
       row-at = read-at rowWidths blockRefusal s last (omega arith) (omega arith) r e t
 
       pub row-fits : (k : ℕ) → k < length rowWidths → getD (r .numbers) k 0 < 10 ^ getD rowWidths k 0
       row-fits = read-fits rowWidths blockRefusal s last (omega arith) (omega arith) r e t
 
-      pub row-number : (getD (r .numbers) 0 0 ≡ last + 1 → ⊥) → Refused wrongNumber ≡ rowAnswer s last
-      row-number n = row-refused wrongNumber (read-number rowWidths blockRefusal s last (omega arith) (omega arith) r e t n) (λ k. omega arith)
+      pub row-number : (getD (r .numbers) 0 0 ≡ last + 1 → ⊥) → Refused (withoutPlace wrongNumber) ≡ rowAnswer s last
+      row-number n = row-refused (withoutPlace wrongNumber) (read-number rowWidths blockRefusal s last (omega arith) (omega arith) r e t n) (λ k. omega arith)
 
       module _ (n : getD (r .numbers) 0 0 ≡ last + 1) where
-        block-told : rowRefusal s last ≡ cond (leb (getD (r .numbers) 5 0) 1) 0 wrongBlock
+        block-told : rowRefusal s last ≡ withoutPlace (cond (leb (getD (r .numbers) 5 0) 1) 0 wrongBlock)
         block-told = rw (row-at 5 (omega arith)) (read-rest rowWidths blockRefusal s last (omega arith) (omega arith) r e t n)
 
-        pub row-block : 1 < getD (r .numbers) 5 0 → Refused wrongBlock ≡ rowAnswer s last
-        row-block b = row-refused wrongBlock (block-told ∙ rw (lt-leb (getD (r .numbers) 5 0) 1 b)) (λ k. omega arith)
+        pub row-block : 1 < getD (r .numbers) 5 0 → Refused (withoutPlace wrongBlock) ≡ rowAnswer s last
+        row-block b = row-refused (withoutPlace wrongBlock) (block-told ∙ rw (lt-leb (getD (r .numbers) 5 0) 1 b)) (λ k. omega arith)
 
         module _ (b : getD (r .numbers) 5 0 ≤ 1) where
-          none : rowRefusal s last ≡ 0
+          none : rowRefusal s last ≡ withoutPlace 0
           none = block-told ∙ rw (le-leb (getD (r .numbers) 5 0) 1 b)
 
           same : rowOf (r .numbers) ≡ rowOf (numbersOf s)
@@ -74,8 +82,8 @@ module _ (s : List ℕ) (last : ℕ) where
 
 -- ---- a line of another shape, and an accepted row
 
-pub row-misshapen : (s : List ℕ) (last : ℕ) → rightShape rowWidths s ≡ false → rowAnswer s last ≡ Refused wrongShape
-row-misshapen s last h = sym (row-refused s last wrongShape (numbered-misshapen rowWidths blockRefusal s last h) (λ k. omega arith))
+pub row-misshapen : (s : List ℕ) (last : ℕ) (f : Fault) → shapeOf rowWidths s ≡ Wrong f → rowAnswer s last ≡ Refused (misshapen (length rowWidths) s f)
+row-misshapen s last f h = sym (row-refused s last (misshapen (length rowWidths) s f) (numbered-misshapen rowWidths blockRefusal s last f h) (flaw-refused (f .flaw)))
 
 -- a digit in each of six fields, five commas, CR LF
 abbrev pub shortestRow : ℕ
@@ -96,9 +104,9 @@ free-block block = by-cond (λ n. n ≡ 0 → block ≤ 1) (leb block 1) 0 wrong
 pub accepted-row : (s : List ℕ) (last : ℕ) (x : Row) → rowAnswer s last ≡ Accepted x → AcceptedRow s last x
 unfolding rowAnswer
 accepted-row s last x e =
-    let none : rowRefusal s last ≡ 0 = sym (row-told (Accepted x) s last (sym e) .1) in
+    let none : rowRefusal s last .number ≡ 0 = sym (ap (λ (y : Refusal). y .number) (row-told (Accepted x) s last (sym e) .1)) in
     let passed = numbered-passed rowWidths blockRefusal s last none in
-    let shape = passed .shape in
+    let shape = faultless-shape rowWidths s (omega arith) (passed .shape) in
     let same : rowOf (numbersOf s) ≡ x = cc in
     let below = number-below rowWidths s (omega arith) shape in
     record {
@@ -133,5 +141,5 @@ module _ (last stamp a b c block : ℕ) (n : last + 1 ≤ lastRow) (t : stamp �
   unfolding rowAnswer
   row-back =
       let back = line-numbers rowWidths numbers (omega arith) fields-fit in
-      let told = numbered-rest rowWidths blockRefusal (lineOf numbers) last (line-shaped rowWidths numbers (omega arith) fields-fit) (rw back) in
+      let told = numbered-rest rowWidths blockRefusal (lineOf numbers) last (right-faultless rowWidths (lineOf numbers) (omega arith) (line-shaped rowWidths numbers (omega arith) fields-fit)) (rw back) in
       rw (told, back, le-leb block 1 kd)

@@ -8,37 +8,50 @@ use native.Mathlib.Omega.{arith}
 use lib.ListN.{length, getD}
 use Rattle.phase.specs.declared.settings.Settings.{Settings}
 use Rattle.phase.specs.Settings.{settingsRefusal}
-use Rattle.text.specs.declared.line.Line.{Line}
+use Rattle.text.specs.declared.fault.Fault.{Fault}
+use Rattle.text.specs.declared.fault.Shape.{Shape}
+use Rattle.text.specs.declared.fault.Shape.the-variants.{Right, Wrong}
+use Rattle.text.specs.declared.reader.Line.{Line}
 use Rattle.rows.specs.declared.settings_line.SettingsRead.{SettingsRead}
 use Rattle.rows.specs.declared.settings_line.SettingsRead.the-variants.{Accepted, Refused}
-use Rattle.text.specs.Line.{rightShape, numbersOf, lineAnswer}
+use Rattle.text.specs.Line.{rightShape, numbersOf}
+use Rattle.text.specs.Fault.{shapeOf}
+use Rattle.text.specs.Reader.{lineAnswer}
 use Rattle.text.specs.device.Calls.{Readable}
-use Rattle.rows.specs.Refusals.{wrongShape}
-use Rattle.rows.specs.SettingsLine.{settingsWidths, settingsIn, settingsLineRefusal, settingsLineAnswer, settingsLineNumber}
-use Rattle.checks.specs.Checks.{check}
-use Rattle.checks.proofs.PassedLaws.{all-passed}
-use Rattle.rows.proofs.AnswerNumbers.{answer-number, answer-refused}
+use Rattle.rows.specs.declared.refusal.Refusal.{Refusal}
+use Rattle.rows.specs.Refusal.{misshapen, withoutPlace, accepted, lineRefusal}
+use Rattle.rows.specs.SettingsLine.{settingsWidths, settingsIn, settingsLineRefusal, settingsLineAnswer, settingsLineNumbers}
+use Rattle.rows.proofs.AnswerNumbers.{flaw-refused, no-refusal, answer-numbers, answer-refused}
+use Rattle.rows.proofs.NumberedLaws.{line-passed}
 use Rattle.text.proofs.LineLaws.{line-shape, line-number}
+use Rattle.text.proofs.RightLaws.{faultless-shape}
 
 pub settings-readable : Readable settingsWidths
 settings-readable = record { some = omega arith; few = omega arith; each = refl }
 
+pub settings-by : (s : List ℕ) (x : Shape) → shapeOf settingsWidths s ≡ x → settingsLineRefusal s ≡ lineRefusal (length settingsWidths) x s (settingsRefusal (settingsIn (numbersOf s)))
+unfolding settingsLineRefusal
+settings-by s x e = ap (λ (y : Shape). lineRefusal (length settingsWidths) y s (settingsRefusal (settingsIn (numbersOf s)))) e
+
+settings-none : (s : List ℕ) → settingsLineRefusal s .number ≡ 0 → settingsLineRefusal s ≡ accepted
+unfolding settingsLineRefusal
+settings-none s e = no-refusal (length settingsWidths) (shapeOf settingsWidths s) s (settingsRefusal (settingsIn (numbersOf s))) e
+
 -- both clauses of the reader's contract
-pub settings-told : (r : SettingsRead) (s : List ℕ) → r ≡ settingsLineAnswer s → (r ≡ settingsLineAnswer s) × (settingsLineNumber r ≡ settingsLineRefusal s)
+pub settings-told : (r : SettingsRead) (s : List ℕ) → r ≡ settingsLineAnswer s → (r ≡ settingsLineAnswer s) × (settingsLineNumbers r ≡ settingsLineRefusal s)
 unfolding settingsLineAnswer
 settings-told r s e =
-    (e, ap settingsLineNumber e ∙ answer-number settingsLineNumber (settingsLineRefusal s) (Accepted (settingsIn (numbersOf s))) (Refused (settingsLineRefusal s)) refl refl)
+    (e, ap settingsLineNumbers e ∙ answer-numbers settingsLineNumbers (settingsLineRefusal s) (Accepted (settingsIn (numbersOf s))) (Refused (settingsLineRefusal s)) (settings-none s) refl refl)
 
-pub settings-refused : (s : List ℕ) (n : ℕ) → settingsLineRefusal s ≡ n → (n ≡ 0 → ⊥) → Refused n ≡ settingsLineAnswer s
+pub settings-refused : (s : List ℕ) (x : Refusal) → settingsLineRefusal s ≡ x → (x .number ≡ 0 → ⊥) → Refused x ≡ settingsLineAnswer s
 unfolding settingsLineAnswer
-settings-refused s n e k = answer-refused Refused (Accepted (settingsIn (numbersOf s))) (settingsLineRefusal s) n e k
+settings-refused s x e k = answer-refused Refused (Accepted (settingsIn (numbersOf s))) (settingsLineRefusal s) x e k
 
 module _ (s : List ℕ) (r : Line) (e : r ≡ lineAnswer settingsWidths s) where
-  pub settings-shape : r .right ≡ false → Refused wrongShape ≡ settingsLineAnswer s
-  unfolding settingsLineRefusal
-  settings-shape t = settings-refused s wrongShape (rw (sym (line-shape settingsWidths s (omega arith) r e) ∙ t)) (λ k. omega arith)
+  pub settings-shape : (f : Fault) → r .shape ≡ Wrong f → Refused (misshapen (length settingsWidths) s f) ≡ settingsLineAnswer s
+  settings-shape f t = settings-refused s (misshapen (length settingsWidths) s f) (settings-by s (Wrong f) (sym (line-shape settingsWidths s (omega arith) r e) ∙ t)) (flaw-refused (f .flaw))
 
-  module _ (t : r .right ≡ true) where
+  module _ (t : r .shape ≡ Right) where
     settings-at : (k : ℕ) → k < length settingsWidths → (getD (r .numbers) k 0 ≡ getD (numbersOf s) k 0) × (getD (numbersOf s) k 0 < 10 ^ getD settingsWidths k 0)
     settings-at k h = line-number settingsWidths s (omega arith) r e t k (omega arith) h
 
@@ -57,37 +70,35 @@ module _ (s : List ℕ) (r : Line) (e : r ≡ lineAnswer settingsWidths s) where
           settings-at 6 (omega arith) .0,
         )
 
-    checked : settingsLineRefusal s ≡ settingsRefusal (settingsIn (r .numbers))
-    unfolding settingsLineRefusal
-    checked = rw (sym (line-shape settingsWidths s (omega arith) r e) ∙ t, same)
+    checked : settingsLineRefusal s ≡ withoutPlace (settingsRefusal (settingsIn (r .numbers)))
+    checked = settings-by s Right (sym (line-shape settingsWidths s (omega arith) r e) ∙ t) ∙ rw same
 
-    pub settings-checked : (n : ℕ) → n ≡ settingsRefusal (settingsIn (r .numbers)) → (n ≡ 0 → ⊥) → Refused n ≡ settingsLineAnswer s
-    settings-checked n q k = settings-refused s n (checked ∙ sym q) k
+    pub settings-checked : (n : ℕ) → n ≡ settingsRefusal (settingsIn (r .numbers)) → (n ≡ 0 → ⊥) → Refused (withoutPlace n) ≡ settingsLineAnswer s
+    settings-checked n q k = settings-refused s (withoutPlace n) (checked ∙ ap withoutPlace (sym q)) k
 
     pub settings-accepted : settingsRefusal (settingsIn (r .numbers)) ≡ 0 → Accepted (settingsIn (r .numbers)) ≡ settingsLineAnswer s
     unfolding settingsLineAnswer
-    settings-accepted q = rw (checked ∙ q, same)
+    settings-accepted q = rw (checked ∙ ap withoutPlace q, same)
 
 -- ---- a line of another shape, and an accepted one
 
-pub settings-misshapen : (s : List ℕ) → rightShape settingsWidths s ≡ false → settingsLineRefusal s ≡ wrongShape
-unfolding settingsLineRefusal
-settings-misshapen s h = rw h
+pub settings-misshapen : (s : List ℕ) (f : Fault) → shapeOf settingsWidths s ≡ Wrong f → settingsLineAnswer s ≡ Refused (misshapen (length settingsWidths) s f)
+settings-misshapen s f h = sym (settings-refused s (misshapen (length settingsWidths) s f) (settings-by s (Wrong f) h) (flaw-refused (f .flaw)))
 
-pub settings-answer : (s : List ℕ) → settingsLineRefusal s ≡ 0 → settingsLineAnswer s ≡ Accepted (settingsIn (numbersOf s))
+pub settings-answer : (s : List ℕ) → settingsLineRefusal s .number ≡ 0 → settingsLineAnswer s ≡ Accepted (settingsIn (numbersOf s))
 unfolding settingsLineAnswer
 settings-answer s e = rw e
 
 -- it has the shape, and its settings pass their check
-pub settings-line-passed : (s : List ℕ) → settingsLineRefusal s ≡ 0 → (rightShape settingsWidths s ≡ true) × (settingsRefusal (settingsIn (numbersOf s)) ≡ 0)
+pub settings-line-passed : (s : List ℕ) → settingsLineRefusal s .number ≡ 0 → (rightShape settingsWidths s ≡ true) × (settingsRefusal (settingsIn (numbersOf s)) ≡ 0)
 unfolding settingsLineRefusal
 settings-line-passed s e =
-    let (shape, settings) = all-passed (check (rightShape settingsWidths s) wrongShape ∷ []) (settingsRefusal (settingsIn (numbersOf s))) refl e in
-    (shape .0, settings)
+    let (shape, settings) = line-passed (length settingsWidths) (shapeOf settingsWidths s) s (settingsRefusal (settingsIn (numbersOf s))) e in
+    (faultless-shape settingsWidths s (omega arith) shape, settings)
 
 pub accepted-settings-pass : (s : List ℕ) (x : Settings) → settingsLineAnswer s ≡ Accepted x → settingsRefusal x ≡ 0
 accepted-settings-pass s x e =
-    let none : settingsLineRefusal s ≡ 0 = sym (settings-told (Accepted x) s (sym e) .1) in
+    let none : settingsLineRefusal s .number ≡ 0 = sym (ap (λ (y : Refusal). y .number) (settings-told (Accepted x) s (sym e) .1)) in
     let same : Accepted (settingsIn (numbersOf s)) ≡ Accepted x = sym (settings-answer s none) ∙ e in
     let inside : settingsIn (numbersOf s) ≡ x = cc in
     rw (← inside) (settings-line-passed s none .1)

@@ -1,4 +1,5 @@
 pub mod Refusals
+pub mod Refusal
 pub mod Numbered
 pub mod Row
 pub mod SettingsLine

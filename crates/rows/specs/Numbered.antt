@@ -2,16 +2,19 @@
 use mathlib.Core.List.{List, [], _∷_}
 use Prim.Native.Nat.{ℕ, _+_}
 use lib.Dec.{eqb}
-use lib.ListN.{getD}
+use lib.ListN.{length, getD}
 use Rattle.checks.specs.Checks.{Check, check, firstFailed}
-use Rattle.rows.specs.Refusals.{wrongShape, wrongNumber}
-use Rattle.text.specs.Line.{rightShape, numbersOf}
+use Rattle.rows.specs.declared.refusal.Refusal.{Refusal}
+use Rattle.rows.specs.Refusals.{wrongNumber}
+use Rattle.rows.specs.Refusal.{lineRefusal}
+use Rattle.text.specs.Line.{numbersOf}
+use Rattle.text.specs.Fault.{shapeOf}
 
--- after a row of number `last`: 12 whatever the rest, for "a line's numbers are looked at only if its shape is right"; then 13
--- where the number "isn't one more than the last"
-abbrev pub numberedChecks : List ℕ → List ℕ → ℕ → List Check
-numberedChecks widths s last = check (rightShape widths s) wrongShape ∷ check (eqb (getD (numbersOf s) 0 0) (last + 1)) wrongNumber ∷ []
+-- after a row of number `last`: 13 where the number "isn't one more than the last"
+abbrev pub numberedChecks : List ℕ → ℕ → List Check
+numberedChecks ns last = check (eqb (getD ns 0 0) (last + 1)) wrongNumber ∷ []
 
--- then what its numbers are refused with
-unfoldable pub numberedRefusal : List ℕ → (List ℕ → ℕ) → List ℕ → ℕ → ℕ
-numberedRefusal widths rest s last = firstFailed (numberedChecks widths s last) (rest (numbersOf s))
+-- in a row of right shape; then what its numbers are refused with
+unfoldable pub numberedRefusal : List ℕ → (List ℕ → ℕ) → List ℕ → ℕ → Refusal
+numberedRefusal widths rest s last =
+    lineRefusal (length widths) (shapeOf widths s) s (firstFailed (numberedChecks (numbersOf s) last) (rest (numbersOf s)))

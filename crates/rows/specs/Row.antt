@@ -8,6 +8,8 @@ use Rattle.rows.specs.declared.row.Row.{Row}
 use Rattle.rows.specs.declared.row.RowRead.{RowRead}
 use Rattle.rows.specs.declared.row.RowRead.the-variants.{Accepted, Refused}
 use Rattle.relay.specs.Refusals.{wrongBlock}
+use Rattle.rows.specs.declared.refusal.Refusal.{Refusal}
+use Rattle.rows.specs.Refusal.{accepted}
 use Rattle.rows.specs.Numbered.{numberedRefusal}
 use Rattle.text.specs.Line.{numbersOf}
 
@@ -31,15 +33,15 @@ rowOf ns = record { number = getD ns 0 0; l1 = getD ns 2 0; l2 = getD ns 3 0; l3
 abbrev pub blockRefusal : List ℕ → ℕ
 blockRefusal ns = cond (leb (rowOf ns .block) 1) 0 wrongBlock
 
--- the lowest number that applies, after a row of number `last`: 12, 13, 14
-abbrev pub rowRefusal : List ℕ → ℕ → ℕ
+-- after a row of number `last`: by its shape, 13, 14; "Refusals 13 and 14 stay, and are looked at only in a row of right shape."
+abbrev pub rowRefusal : List ℕ → ℕ → Refusal
 rowRefusal s last = numberedRefusal rowWidths blockRefusal s last
 
 -- what the reader of rows answers
 unfoldable pub rowAnswer : List ℕ → ℕ → RowRead
-rowAnswer s last = cond (eqb (rowRefusal s last) 0) (Accepted (rowOf (numbersOf s))) (Refused (rowRefusal s last))
+rowAnswer s last = cond (eqb (rowRefusal s last .number) 0) (Accepted (rowOf (numbersOf s))) (Refused (rowRefusal s last))
 
--- the paper's number for each case of the answer
-abbrev pub rowNumber : RowRead → ℕ
-rowNumber (Accepted row) = 0
-rowNumber (Refused n) = n
+-- the paper's numbers for each case of the answer
+abbrev pub rowNumbers : RowRead → Refusal
+rowNumbers (Accepted row) = accepted
+rowNumbers (Refused x) = x

@@ -1,8 +1,13 @@
 // Layer 4, one line at a time: data rows and the settings line.
+mod refusal;
 pub mod refusals;
 mod row;
 mod settings_line;
 
+pub use refusal::Hint;
+pub use refusal::Refusal;
+pub use refusal::refuse;
+pub use refusal::refuse_shape;
 pub use row::Row;
 pub use row::RowRead;
 pub use row::read_row;

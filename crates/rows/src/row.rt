@@ -1,10 +1,13 @@
 // A data row: number, timestamp, L1, L2, L3, block.
 ghost use mathlib.Core.Path.{_≡_};
-ghost use Rattle.rows.specs.Row.{rowRefusal, rowAnswer, rowNumber};
+ghost use Rattle.rows.specs.Row.{rowRefusal, rowAnswer, rowNumbers};
+use crate::refusal::Refusal;
+use crate::refusal::refuse;
+use crate::refusal::refuse_shape;
 use crate::refusals::WRONG_NUMBER;
-use crate::refusals::WRONG_SHAPE;
 use relay::refusals::WRONG_BLOCK;
-use text::line::read_line;
+use text::fault::Shape;
+use text::reader::read_line;
 
 pub struct Row {
     pub number: u32,
@@ -16,25 +19,26 @@ pub struct Row {
 
 pub enum RowRead {
     Accepted(Row),
-    Refused(u32),
+    Refused(Refusal),
 }
 
 // Reads the row that these bytes are, after a row of number `last` (0 before the first).
 pub fn read_row(row: &[u8], last: u32) -> RowRead
     ensures answer { λ r. ⌜ r ≡ rowAnswer (now (row .entry)) last ⌝ }
-    ensures number { λ r. ⌜ rowNumber r ≡ rowRefusal (now (row .entry)) last ⌝ }
+    ensures numbers { λ r. ⌜ rowNumbers r ≡ rowRefusal (now (row .entry)) last ⌝ }
 {
     let widths = [6usize, 10, 7, 7, 7, 1];
     let line = read_line(row, &widths);
-    if !line.right {
-        return RowRead::Refused(WRONG_SHAPE);
+    let shape = line.shape;
+    if let Shape::Wrong(fault) = shape {
+        return RowRead::Refused(refuse_shape(row, fault, widths.len()));
     }
     let n = line.numbers;
     if n[0] != last as u64 + 1 {
-        return RowRead::Refused(WRONG_NUMBER);
+        return RowRead::Refused(refuse(WRONG_NUMBER));
     }
     if 1 < n[5] {
-        return RowRead::Refused(WRONG_BLOCK);
+        return RowRead::Refused(refuse(WRONG_BLOCK));
     }
     RowRead::Accepted(Row {
         number: n[0] as u32,

@@ -1,24 +1,28 @@
 // The settings line: the seven settings, in the order of document 01's table.
 ghost use mathlib.Core.Path.{_≡_};
-ghost use Rattle.rows.specs.SettingsLine.{settingsLineRefusal, settingsLineAnswer, settingsLineNumber};
-use crate::refusals::WRONG_SHAPE;
+ghost use Rattle.rows.specs.SettingsLine.{settingsLineRefusal, settingsLineAnswer, settingsLineNumbers};
+use crate::refusal::Refusal;
+use crate::refusal::refuse;
+use crate::refusal::refuse_shape;
 use phase::Settings;
-use text::line::read_line;
+use text::fault::Shape;
+use text::reader::read_line;
 
 pub enum SettingsRead {
     Accepted(Settings),
-    Refused(u32),
+    Refused(Refusal),
 }
 
 // Reads the settings line that these bytes are.
 pub fn read_settings_line(line: &[u8]) -> SettingsRead
     ensures answer { λ r. ⌜ r ≡ settingsLineAnswer (now (line .entry)) ⌝ }
-    ensures number { λ r. ⌜ settingsLineNumber r ≡ settingsLineRefusal (now (line .entry)) ⌝ }
+    ensures numbers { λ r. ⌜ settingsLineNumbers r ≡ settingsLineRefusal (now (line .entry)) ⌝ }
 {
     let widths = [5usize, 5, 5, 5, 5, 5, 5];
     let l = read_line(line, &widths);
-    if !l.right {
-        return SettingsRead::Refused(WRONG_SHAPE);
+    let shape = l.shape;
+    if let Shape::Wrong(fault) = shape {
+        return SettingsRead::Refused(refuse_shape(line, fault, widths.len()));
     }
     let n = l.numbers;
     let settings = Settings {
@@ -32,7 +36,7 @@ pub fn read_settings_line(line: &[u8]) -> SettingsRead
     };
     let refusal = settings.check();
     if refusal != 0 {
-        return SettingsRead::Refused(refusal);
+        return SettingsRead::Refused(refuse(refusal));
     }
     SettingsRead::Accepted(settings)
 }

@@ -1,6 +1,7 @@
 // Why a recording was refused, in one line on standard error.
 ghost use mathlib.Core.Path.{_≡_};
 ghost use Rattle.files.specs.Replay.{refusalAtEnd};
+use crate::words::say_hint;
 use crate::words::say_refusal;
 use config::ConfigRead;
 use files::Configuration;
@@ -10,6 +11,7 @@ use files::Replay;
 use files::refusals::WRONG_LAST_SAMPLE;
 use program::say;
 use program::say_number;
+use rows::Refusal;
 
 // The end line without its LF.
 fn say_end(state: Replay) {
@@ -40,48 +42,61 @@ fn refused_line(configuration: Configuration) -> u32 {
     }
 }
 
-// After the settings line: a line of the configuration, or the row after those done.
-fn say_line(configuration: Configuration, done: u32) {
+// After the settings line: a line of the configuration, or the row due.
+fn say_line(configuration: Configuration, done: u32) -> usize {
     let line = refused_line(configuration);
     if line != 0 {
         say(b"line ");
         say_number(line as u64);
-        say(b" of the configuration");
-        return;
+        return say(b" of the configuration");
     }
     say(b"row ");
-    say_number(done as u64 + 1);
+    say_number(done as u64 + 1)
 }
 
 // What was refused: the settings that a replay holds pass their check once a settings line was accepted.
-fn say_place(state: Replay, refusal: u32) {
+fn say_what(state: Replay, refusal: Refusal) -> usize {
     let progress = state.progress;
     if progress.settings.check() != 0 {
-        say(b"the settings line");
-        return;
+        return say(b"settings line");
     }
-    if refusal == WRONG_LAST_SAMPLE {
-        say(b"the recording");
-        return;
+    if refusal.number == WRONG_LAST_SAMPLE {
+        return say(b"recording");
     }
     let configuration = progress.configuration;
-    say_line(configuration, progress.done);
+    say_line(configuration, progress.done)
+}
+
+// Where it stands in the line, which only a refusal of a line's shape tells: no other has a field.
+fn say_place(refusal: Refusal) {
+    if refusal.field == 0 {
+        return;
+    }
+    say(b"byte ");
+    say_number(refusal.offset as u64);
+    say(b", field ");
+    say_number(refusal.field as u64);
+    say(b": ");
 }
 
 // Says nothing where nothing was refused. Answers the refusal's number, which is all that a contract can say of it.
 pub fn tell(state: Replay) -> u32
-    ensures { λ r. ⌜ r ≡ refusalAtEnd state ⌝ }
+    ensures { λ r. ⌜ r ≡ refusalAtEnd state .number ⌝ }
 {
     let refusal = files::refusal_at_end(state);
-    if refusal == 0 {
-        return refusal;
+    let number = refusal.number;
+    if number == 0 {
+        return number;
     }
     say_end_of_record(state);
-    say_place(state, refusal);
-    say(b" is refused with ");
-    say_number(refusal as u64);
+    say_what(state, refusal);
+    say(b": refused ");
+    say_number(number as u64);
     say(b": ");
-    say_refusal(refusal);
+    say_place(refusal);
+    say_refusal(number);
+    let hint = refusal.hint;
+    say_hint(hint);
     say(b"\n");
-    refusal
+    number
 }

@@ -1,5 +1,6 @@
 // What each refusal number of a replay means, for a person. Each answers how many bytes were taken.
 use program::say;
+use rows::Hint;
 
 // The settings' numbers, 1 to 7.
 fn say_setting(refusal: u32) -> usize {
@@ -38,15 +39,35 @@ fn say_configuration(refusal: u32) -> usize {
     say(b" is missing, malformed or not one that we take")
 }
 
-// In the words of document 01's table, and of document 02's E4.
+// The shape of a line, 29 to 33.
+fn say_flaw(refusal: u32) -> usize {
+    match refusal {
+        29 => say(b"no digit in the field"),
+        30 => say(b"a digit too many"),
+        31 => say(b"neither a digit nor a comma"),
+        32 => say(b"too few or too many fields"),
+        _ => say(b"CR LF is missing, or bytes follow it"),
+    }
+}
+
+// What may be the matter with the file as a whole.
+pub(crate) fn say_hint(hint: Hint) -> usize {
+    match hint {
+        Hint::None => 0,
+        Hint::LineFeed => say(b"; the file seems to have LF line ends, where CR LF is due"),
+        Hint::ByteOrderMark => say(b"; the line begins with a byte order mark"),
+    }
+}
+
+// In the words of document 01's table, and of document 02's E4 and E5.
 pub(crate) fn say_refusal(refusal: u32) -> usize {
     match refusal {
         1..=7 => say_setting(refusal),
-        12 => say(b"the line has the wrong shape"),
         13 => say(b"the row number isn't one more than the last (the first is 1)"),
         14 => say(b"the block field isn't 0 or 1"),
         18..=27 => say_configuration(refusal),
         28 => say(b"the configuration's last sample number isn't the rows done"),
+        29..=33 => say_flaw(refusal),
         _ => say(b"the number has no words"),
     }
 }

@@ -45,9 +45,9 @@ module _ (b : ℕ) where
       let (first, rest) = both-true (isDigit d) (allDigits f) h in
       more-lacks d f (digit-is-not b d low first) (digits-lack low f rest)
 
--- ---- fields, each of which holds something
+-- ---- a list, of each of which something holds
 
-abbrev pub Each : (List ℕ → Type 0) → List (List ℕ) → Type 0
+abbrev pub Each : {A : Type 0} → (A → Type 0) → List A → Type 0
 Each P [] = Unit {0}
 Each P (f ∷ fs) = P f × Each P fs
 

@@ -13,7 +13,8 @@ use lib.ListN.{length, getD, drop, set, length-drop, drop-of-length-le, List·ge
 use lib.Seq.{sets, drop-cons, drop-length, drop-drop, getD-drop}
 use borrow.Author.Tests.{le-leb, leb-true, eq-eqb, ne-eqb, eqb-true, eqb-false}
 use Rattle.text.specs.Number.{leading, valueOf, digitLimit}
-use Rattle.text.specs.Line.{cr, lf, comma, isLf, narrow, fieldLimit, placed}
+use Rattle.text.specs.Line.{cr, comma, isLf}
+use Rattle.text.specs.Reader.{narrow}
 use Rattle.checks.proofs.Cases.{by-cond}
 use Rattle.checks.proofs.Tests.{both-true}
 use Rattle.text.proofs.DigitLaws.{leading-length, value-small}
@@ -92,23 +93,9 @@ narrow-at [] (suc k) h = omega arith
 narrow-at (w ∷ ws) zero h = leb-true w digitLimit (both-true (leb w digitLimit) _ h .0)
 narrow-at (w ∷ ws) (suc k) h = narrow-at ws k (both-true (leb w digitLimit) _ h .1)
 
--- a byte that closes a field is there
-pub closed-within : (s : List ℕ) (p : ℕ) (t : Bool) → getD s p 0 ≡ cond t cr comma → p < length s
-closed-within s p true e = lt-of-not-le (λ l. omega (arith, List·getD-eq-default s 0 l))
-closed-within s p false e = lt-of-not-le (λ l. omega (arith, List·getD-eq-default s 0 l))
-
--- ---- a turn of the reader, at field k and place at: what is left gives the whole
-
-pub record FieldsRead (ws s : List ℕ) (at k : ℕ) (numbers : List ℕ) : Type 0 where
-  pub within : at ≤ length s
-  pub few : k ≤ length ws
-  pub room : length numbers ≡ fieldLimit
-  pub shape : scans (drop k ws) (drop at s) ≡ scans ws s
-  pub whole : sets numbers k (scanned (drop k ws) (drop at s)) ≡ placed (scanned ws s)
-
 -- the byte that closes field k
 module _ (ws : List ℕ) (k : ℕ) (h : k < length ws) where
-  closer-at : fieldCloser (drop (k + 1) ws) ≡ cond (eqb (k + 1) (length ws)) cr comma
+  pub closer-at : fieldCloser (drop (k + 1) ws) ≡ cond (eqb (k + 1) (length ws)) cr comma
   unfolding fieldCloser
   closer-at =
       by-cond (λ (b : ℕ). fieldCloser (drop (k + 1) ws) ≡ b) (eqb (k + 1) (length ws)) cr comma
@@ -119,67 +106,3 @@ module _ (ws : List ℕ) (k : ℕ) (h : k < length ws) where
 
   pub closer-suc : fieldCloser (drop (suc k) ws) ≡ cond (eqb (k + 1) (length ws)) cr comma
   closer-suc = ap (λ (n : ℕ). fieldCloser (drop n ws)) (sym (add-one k)) ∙ closer-at
-
-module _ (ws s : List ℕ) (k at : ℕ) (h : k < length ws) where
-  abbrev here : ℕ
-  here = length (leading (getD ws k 0) (drop at s))
-
-  -- the digits counted, and the byte after them the one that closes the field
-  pub record FieldCloses : Type 0 where
-    pub due : getD s (at + here) 0 ≡ cond (eqb (k + 1) (length ws)) cr comma
-    pub within : at + here < length s
-
-  pub field-closes : (n byte due : ℕ) → n ≡ here → byte ≡ getD s (at + n) 0 → due ≡ cond (eqb (k + 1) (length ws)) cr comma → byte ≡ due → FieldCloses
-  field-closes n byte due e f g q =
-      let z : getD s (at + here) 0 ≡ cond (eqb (k + 1) (length ws)) cr comma = ap (λ (m : ℕ). getD s (at + m) 0) (sym e) ∙ sym f ∙ q ∙ g in
-      record { due = z; within = closed-within s (at + here) (eqb (k + 1) (length ws)) z }
-
-  further : drop (here + 1) (drop at s) ≡ drop (at + here + 1) s
-  further = let e : at + (here + 1) ≡ at + here + 1 = omega arith in drop-drop (here + 1) at s ∙ rw e
-
-  -- the field has no digit
-  pub turn-empty : here ≡ 0 → scans (drop k ws) (drop at s) ≡ false
-  unfolding scans
-  turn-empty e = rw (drop-cons ws k 0 h, e)
-
-  -- another byte closes it
-  pub turn-open : (getD s (at + here) 0 ≡ cond (eqb (k + 1) (length ws)) cr comma → ⊥) → scans (drop k ws) (drop at s) ≡ false
-  unfolding scans
-  turn-open n = rw (drop-cons ws k 0 h, getD-drop at s here 0, closer-suc ws k h, ne-eqb _ _ n) (and-false (leb 1 here))
-
-  -- one field further
-  pub turn-shape : 1 ≤ here → getD s (at + here) 0 ≡ cond (eqb (k + 1) (length ws)) cr comma
-      → scans (drop k ws) (drop at s) ≡ scans (drop (k + 1) ws) (drop (at + here + 1) s)
-  unfolding scans
-  turn-shape a e = rw (drop-cons ws k 0 h, le-leb 1 here a, getD-drop at s here 0, closer-suc ws k h, eq-eqb _ _ e, further, add-one k)
-
-  pub turn-numbers : (ns : List ℕ)
-      → sets ns k (scanned (drop k ws) (drop at s))
-      ≡ sets (set ns k (valueOf (leading (getD ws k 0) (drop at s)))) (k + 1) (scanned (drop (k + 1) ws) (drop (at + here + 1) s))
-  unfolding scanned
-  turn-numbers ns = rw (drop-cons ws k 0 h, further, add-one k)
-
--- ---- past the last field
-
-module _ (ws s : List ℕ) (k at : ℕ) (h : length ws ≤ k) where
-  pub end-numbers : (ns : List ℕ) → sets ns k (scanned (drop k ws) (drop at s)) ≡ ns
-  unfolding scanned
-  end-numbers ns = rw (drop-of-length-le ws h)
-
-  pub end-long : at ≤ length s → (length s ≡ at + 1 → ⊥) → scans (drop k ws) (drop at s) ≡ false
-  unfolding scans isLf
-  end-long l n = rw (drop-of-length-le ws h, length-drop at s, ne-eqb (length s - at) 1 (λ e. n (omega arith)))
-
-  module _ (e : length s ≡ at + 1) where
-    last-byte : drop at s ≡ getD s at 0 ∷ []
-    last-byte =
-        let z : drop (suc at) s ≡ [] = drop-of-length-le s {i = suc at} (omega arith) in
-        drop-cons s at 0 (omega arith) ∙ rw z
-
-    pub end-other : (getD s at 0 ≡ lf → ⊥) → scans (drop k ws) (drop at s) ≡ false
-    unfolding scans isLf
-    end-other n = rw (drop-of-length-le ws h, last-byte, ne-eqb (getD s at 0) lf n)
-
-    pub end-right : getD s at 0 ≡ lf → scans (drop k ws) (drop at s) ≡ true
-    unfolding scans isLf
-    end-right b = rw (drop-of-length-le ws h, last-byte, b)

@@ -3,10 +3,8 @@ use mathlib.Core.Bool.{Bool, true, false, cond, _&&_, _||_}
 use mathlib.Core.List.{List, [], _∷_, _++_}
 use Prim.Native.Nat.{ℕ, _-_}
 use lib.Dec.{leb, eqb}
-use lib.ListN.{length, getD, take, replicate}
-use lib.Seq.{sets}
-use Rattle.text.specs.declared.line.Line.{Line}
-use Rattle.text.specs.Number.{allDigits, valueOf, digitLimit}
+use lib.ListN.{length, getD, take}
+use Rattle.text.specs.Number.{allDigits, valueOf}
 
 abbrev pub comma : ℕ
 comma = 44
@@ -74,27 +72,3 @@ spelled (f ∷ g ∷ gs) = f ++ comma ∷ spelled (g ∷ gs)
 -- that fit.
 abbrev pub written : List (List ℕ) → List ℕ
 written fs = spelled fs ++ crLf
-
--- ---- what the reader of lines answers
-
--- as many fields as it takes
-abbrev pub fieldLimit : ℕ
-fieldLimit = 16
-
--- no field is wider than the reader of digits takes
-abbrev pub narrow : List ℕ → Bool
-narrow [] = true
-narrow (w ∷ ws) = leb w digitLimit && narrow ws
-
--- the numbers from the front, 0 in the other places
-abbrev pub placed : List ℕ → List ℕ
-placed ns = sets (replicate fieldLimit 0) 0 ns
-
-abbrev pub wrongLine : Line
-wrongLine = record { right = false; numbers = placed [] }
-
-abbrev pub rightLine : List ℕ → Line
-rightLine ns = record { right = true; numbers = placed ns }
-
-abbrev pub lineAnswer : List ℕ → List ℕ → Line
-lineAnswer ws s = cond (rightShape ws s) (rightLine (numbersOf s)) wrongLine

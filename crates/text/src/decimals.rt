@@ -1,10 +1,12 @@
 // A line of decimals: its length, and writing it.
 ghost use mathlib.Core.Path.{_≡_};
+ghost use mathlib.Core.Bool.{cond};
+ghost use lib.Dec.{eqb};
 ghost use Prim.Native.Nat.{_≤_};
 ghost use lib.ListN.{length};
+ghost use Rattle.text.specs.Line.{cr, comma};
 ghost use Rattle.text.specs.Decimals.{lineOf};
 ghost use Rattle.text.specs.device.Calls.{Writable, Wrote};
-use crate::line::field_closer;
 use crate::number::decimal_length;
 use crate::number::put_decimal;
 
@@ -20,6 +22,13 @@ pub fn line_length(numbers: &[u32]) -> usize
         k += 1;
     }
     at + 1
+}
+
+// The byte that closes field k of n, counted from 1: a comma, after the last one CR.
+fn field_closer(k: usize, n: usize) -> u8
+    ensures { λ r. ⌜ r ≡ cond (eqb k n) cr comma ⌝ }
+{
+    if k == n { b'\r' } else { b',' }
 }
 
 // Writes the line at the front of `out`, and answers its length.

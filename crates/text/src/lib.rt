@@ -2,7 +2,8 @@
 pub mod bytes;
 pub mod cutter;
 pub mod decimals;
-pub mod line;
+pub mod fault;
 pub mod lines;
 pub mod number;
+pub mod reader;
 pub mod words;

@@ -12,7 +12,7 @@ use Rattle.text.specs.declared.lines.Cut.the-variants.{Held, Closed, Too
 use Rattle.text.specs.declared.cutter.Cutter.{Cutter}
 use Rattle.text.specs.declared.cutter.PieceCut.{PieceCut}
 use Rattle.text.specs.Number.{leading, digitsFrom}
-use Rattle.text.specs.Line.{narrow, fieldLimit}
+use Rattle.text.specs.Reader.{narrow, fieldLimit}
 use Rattle.text.specs.Lines.{closedBy, cutOf}
 use Rattle.text.specs.Cutter.{heldRoom, heldLine}
 

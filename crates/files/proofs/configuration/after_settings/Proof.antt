@@ -3,6 +3,7 @@
 use mathlib.Core.Path.{sym, ap, _∙_}
 use Rattle.config.specs.declared.reader.ConfigRead.{ConfigRead}
 use Rattle.files.specs.declared.configuration.Configuration.the-variants.{Given}
+use Rattle.files.specs.declared.progress.Stage.the-variants.{Stopped}
 use Rattle.files.specs.Configuration.{afterSettings}
 use borrow.Author.Needs.{needs}
 use Rattle.files.proofs.configuration.after_settings.Statement.{statement}
@@ -20,6 +21,9 @@ enum-told-2 c = search needs
 enum-known-answer : tie.Need-enum-known-answer
 enum-known-answer c = search needs
 
+refuse-requires : tie.Need-refuse-requires
+refuse-requires c κs = search needs
+
 returns : tie.Need-returns
 returns c = search needs
 
@@ -28,8 +32,8 @@ returns-2 c = search needs
 
 returns-3 : tie.Need-returns-3
 returns-3 c =
-    let given = c .before .before .before .before .configuration .given .1 in
-    ap (λ (x : ConfigRead). afterSettings (Given x)) (sym (c .before .answer .given .1)) ∙ ap afterSettings (sym given)
+    let given = c .before .before .before .before .before .configuration .given .1 in
+    ap Stopped (c .refuse .ensures) ∙ ap (λ (x : ConfigRead). afterSettings (Given x)) (sym (c .before .before .answer .given .1)) ∙ ap afterSettings (sym given)
 
 pub after-settings-spec : {M : Type 1} → statement M
 after-settings-spec =
@@ -39,6 +43,7 @@ after-settings-spec =
     enum-known-configuration
     enum-told-2
     enum-known-answer
+    refuse-requires
     returns
     returns-2
     returns-3)

@@ -5,6 +5,7 @@ use mathlib.Core.List.{List}
 use Prim.Native.Nat.{ℕ, _+_}
 use lib.ListN.{length}
 use lib.Seq.{sets}
+use Rattle.rows.specs.declared.refusal.Refusal.{Refusal}
 use Rattle.files.specs.Output.{endLine}
 use borrow.Author.Needs.{needs}
 use Rattle.files.proofs.progress.on_end.Statement.{statement}
@@ -22,7 +23,7 @@ same-length c = search needs
 returns : tie.Need-returns
 returns c =
     let a = c .before .before .before .before .before .before .args in
-    let e = ap (endLine (a .p .done)) (c .before .before .before .before .end-refusal .ensures) in
+    let e = ap (λ (x : Refusal). endLine (a .p .done) (x .number)) (c .before .before .before .before .end-refusal .ensures) in
     let f = c .before .before .put-end .ensures in
     record {
       wrote = record {

@@ -6,15 +6,16 @@ use borrow.Author.Needs.{needs}
 use Rattle.files.proofs.progress.on_tick.Statement.{statement}
 use Rattle.files.proofs.progress.on_tick.Tie as tie
 
-stop-requires : tie.Need-stop-requires
-stop-requires c κs = search needs
+after-tick-requires : tie.Need-after-tick-requires
+after-tick-requires c κs = c .before .pre .number
 
 returns : tie.Need-returns
 returns c =
     let a = c .before .before .before .before .args in
-    let e = c .before .if1 .taken in
+    let e = c .if1 .taken in
+    let k = c .before .before .after-tick in
     record {
-      noted = refused-tick-noted (a .form) (a .p) (a .x) (a .t) e (c .stop .result) (a .at) (c .stop .ensures);
+      noted = refused-tick-noted (a .form) (a .p) (a .x) (a .t) e (k .result) (a .at) (k .ensures);
       output = refused-tick-quiet (a .form) (a .p) (a .x) (a .t) e (a .out .now) (a .at);
       short = omega arith;
     }
@@ -22,23 +23,21 @@ returns c =
 note-row-requires : tie.Need-note-row-requires
 note-row-requires c κs = search needs
 
-add-done : tie.Need-add-done
-add-done c = omega (arith, c .before .before .before .before .before .before .before .before .pre .number)
-
 same-length : tie.Need-same-length
 same-length c = search needs
 
 returns-2 : tie.Need-returns-2
 returns-2 c =
-    let a = c .before .before .before .before .before .before .before .before .before .before .args in
-    let e = c .before .before .before .before .before .before .before .if1 .left in
-    let n = c .before .before .before .before .before .note-row in
+    let a = c .before .before .before .before .before .before .before .before .args in
+    let e = c .before .before .before .before .if1 .left in
+    let k = c .before .before .before .before .before .before .after-tick in
+    let n = c .before .before .note-row in
     record {
-      noted = tick-noted (a .form) (a .p) (a .x) (a .t) e (n .result) (a .at) (n .ensures .wrote .place-after);
+      noted = tick-noted (a .form) (a .p) (a .x) (a .t) e (k .result) (n .result) (a .at) (k .ensures) (n .ensures .wrote .place-after);
       output = tick-output (a .form) (a .p) (a .x) (a .t) e (a .out .now) (n .last .1 .0) (a .at) (n .ensures .wrote .output);
       short = n .ensures .short;
     }
 
 pub on-tick-spec : {M : Type 1} → statement M
 on-tick-spec =
-    tie.close (tie.spec stop-requires returns note-row-requires add-done same-length returns-2)
+    tie.close (tie.spec after-tick-requires returns note-row-requires same-length returns-2)

@@ -1,8 +1,10 @@
 -- `files::replay::feed_bytes` meets its contract: a turn of the loop is a line that is closed.
 -- Assumes nothing.
+use mathlib.Core.Path.{_≡_, ap, _∙_}
 use Prim.Native.Nat.{_-_}
 use native.Mathlib.Omega.{arith}
 use lib.ListN.{length}
+use lib.Seq.{length-sets}
 use borrow.Author.Needs.{needs}
 use Rattle.files.specs.declared.replay.Replay.{Replay}
 use Rattle.files.proofs.FeedLaws.{FeedTurn, turn-first, taken, line-room, turn-held, turn-closed, turn-long, turn-last}
@@ -81,8 +83,16 @@ loop-again c =
 enum-told-3 : tie.Need-enum-told-3 Inv-loop μ-loop
 enum-told-3 c = search needs
 
-refuse-shape-requires : tie.Need-refuse-shape-requires Inv-loop μ-loop
-refuse-shape-requires c κs = search needs
+on-held-requires-2 : tie.Need-on-held-requires-2 Inv-loop μ-loop
+on-held-requires-2 c κs =
+    let a = c .before .before .before .before .before .before .before .before .before .before .before .before .before .before .args in
+    let l = c .before .before .before .before .before .before .before .before .before .loop in
+    let more = c .before .before .before .before .before .before .before .before .loop-test .taken in
+    let k = c .before .before .before .before .before .before .before .cut in
+    let s : Replay = record { form = a .state .form; progress = l .progress; cutter = l .cutter } in
+    let piece = taken (a .state) (a .portion .now) (a .out .now) (l .i) s (l .at) (l .out) (l .inv) more (k .result) (k .ensures) in
+    let room = line-room (a .state) (a .portion .now) (a .out .now) (l .i) s (l .at) (l .out) (l .inv) more (k .result) (k .ensures) in
+    (omega (arith, piece .fits, piece .room), omega (arith, room, c .before .before .before .before .before .before .before .before .before .before .before .before .before .before .pre .1, l .inv .long))
 
 empty-requires-2 : tie.Need-empty-requires-2 Inv-loop μ-loop
 empty-requires-2 c κs = search needs
@@ -91,17 +101,22 @@ taken-requires-2 : tie.Need-taken-requires-2 Inv-loop μ-loop
 taken-requires-2 c κs = search needs
 
 same-length-2 : tie.Need-same-length-2 Inv-loop μ-loop
-same-length-2 c = search needs
+same-length-2 c =
+    let a = c .before .before .before .before .before .before .before .before .before .before .before .before .before .before .before .before .before .before .before .before .args in
+    let l = c .before .before .before .before .before .before .before .before .before .before .before .before .before .before .before .loop in
+    let t = c .before .before .before .before .before .on-held2 in
+    let long : length (t .last .1 .1 .1 .1 .0) ≡ length (a .out .now) = ap length (t .ensures .output) ∙ simp length-sets (l .inv .long) in
+    omega (arith, long)
 
 returns-2 : tie.Need-returns-2 Inv-loop μ-loop
 returns-2 c =
-    let a = c .before .before .before .before .before .before .before .before .before .before .before .before .before .args in
-    let l = c .before .before .before .before .before .before .before .before .loop in
-    let more = c .before .before .before .before .before .before .before .loop-test .taken in
-    let k = c .before .before .before .before .before .before .cut in
+    let a = c .before .before .before .before .before .before .before .before .before .before .before .before .before .before .before .before .before .before .before .before .args in
+    let l = c .before .before .before .before .before .before .before .before .before .before .before .before .before .before .before .loop in
+    let more = c .before .before .before .before .before .before .before .before .before .before .before .before .before .before .loop-test .taken in
+    let k = c .before .before .before .before .before .before .before .before .before .before .before .before .before .cut in
     let s : Replay = record { form = a .state .form; progress = l .progress; cutter = l .cutter } in
-    let answer = rw (c .before .empty2 .ensures, c .before .before .refuse-shape .ensures) at (c .taken2 .ensures) in
-    turn-long (a .state) (a .portion .now) (a .out .now) (l .i) s (l .at) (l .out) (l .inv) more (k .result) (k .ensures) (c .before .before .before .enum-told3 .given .1) (c .taken2 .result) answer
+    let t = c .before .before .before .before .before .on-held2 in
+    turn-long (a .state) (a .portion .now) (a .out .now) (l .i) s (l .at) (l .out) (l .inv) more (k .result) (k .ensures) (c .before .before .before .before .before .before .before .before .before .before .enum-told3 .given .1) (t .result) (t .last .1 .1 .1 .1 .0) (t .ensures) (c .taken2 .result) (rw (c .before .empty2 .ensures) at (c .taken2 .ensures))
 
 taken-requires-3 : tie.Need-taken-requires-3 Inv-loop μ-loop
 taken-requires-3 c κs = search needs
@@ -134,7 +149,7 @@ feed-bytes-spec =
     loop-less
     loop-again
     enum-told-3
-    refuse-shape-requires
+    on-held-requires-2
     empty-requires-2
     taken-requires-2
     same-length-2

@@ -1,8 +1,8 @@
--- `text::line::field_closer` meets its contract.
+-- `text::decimals::field_closer` meets its contract.
 -- Assumes nothing.
 use borrow.Author.Tests.{eq-eqb, ne-eqb}
-use Rattle.text.proofs.line.field_closer.Statement.{statement}
-use Rattle.text.proofs.line.field_closer.Tie as tie
+use Rattle.text.proofs.decimals.field_closer.Statement.{statement}
+use Rattle.text.proofs.decimals.field_closer.Tie as tie
 
 returns : tie.Need-returns
 returns c = simp (eq-eqb _ _ (c .if1 .taken))

@@ -1,0 +1,37 @@
+-- What the reader of lines answers: the shape, and where that is right the numbers.
+use mathlib.Core.Bool.{Bool, true, _&&_}
+use mathlib.Core.List.{List, [], _∷_}
+use Prim.Native.Nat.{ℕ}
+use lib.Dec.{leb}
+use lib.ListN.{replicate}
+use lib.Seq.{sets}
+use Rattle.text.specs.declared.fault.Fault.{Fault}
+use Rattle.text.specs.declared.fault.Shape.{Shape}
+use Rattle.text.specs.declared.fault.Shape.the-variants.{Right, Wrong}
+use Rattle.text.specs.declared.reader.Line.{Line}
+use Rattle.text.specs.Number.{digitLimit}
+use Rattle.text.specs.Line.{numbersOf}
+use Rattle.text.specs.Fault.{shapeOf}
+
+-- as many fields as it takes
+abbrev pub fieldLimit : ℕ
+fieldLimit = 16
+
+-- the number of each field fits in 64 bits
+abbrev pub narrow : List ℕ → Bool
+narrow [] = true
+narrow (w ∷ ws) = leb w digitLimit && narrow ws
+
+-- the numbers from the front, 0 in the other places
+abbrev pub placed : List ℕ → List ℕ
+placed ns = sets (replicate fieldLimit 0) 0 ns
+
+abbrev pub wrongLine : Fault → Line
+wrongLine f = record { shape = Wrong f; numbers = placed [] }
+
+abbrev pub lineBy : Shape → List ℕ → Line
+lineBy Right ns = record { shape = Right; numbers = placed ns }
+lineBy (Wrong f) ns = wrongLine f
+
+abbrev pub lineAnswer : List ℕ → List ℕ → Line
+lineAnswer ws s = lineBy (shapeOf ws s) (numbersOf s)
