@@ -4,12 +4,12 @@
 mod asked;
 
 use asked::asked_row;
-use files::Configuration;
-use files::EXPLAIN_SPREAD;
-use files::Form;
 use files::LONGEST_LINE;
 use program::say;
 use program::say_number;
+use steps::Configuration;
+use steps::EXPLAIN_SPREAD;
+use steps::Form;
 
 // The room is counted as if every row wrote an explanation, so a portion is smaller than in the other programs.
 const SMALL_PORTION: usize = 4096;

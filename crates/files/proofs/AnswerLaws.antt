@@ -12,14 +12,14 @@ use Rattle.config.specs.declared.reader.ConfigRead.{ConfigRead}
 use Rattle.config.specs.Config.{configOf}
 use Rattle.config.specs.Reader.{freshReader, takenAll, endAnswer}
 use Rattle.config.proofs.ConfigLaws.{config-of-calls}
-use Rattle.files.specs.declared.configuration.Configuration.{Configuration}
-use Rattle.files.specs.declared.configuration.Configuration.the-variants.{Absent, Given}
-use Rattle.files.specs.declared.output.Form.{Form}
-use Rattle.files.specs.declared.output.Form.the-variants.{Changes, Record, Explain}
+use Rattle.steps.specs.declared.configuration.Configuration.{Configuration}
+use Rattle.steps.specs.declared.configuration.Configuration.the-variants.{Absent, Given}
+use Rattle.steps.specs.declared.output.Form.{Form}
+use Rattle.steps.specs.declared.output.Form.the-variants.{Changes, Record, Explain}
 use Rattle.files.specs.declared.replay.Replay.{Replay}
 use Rattle.files.specs.declared.replay.Fed.{Fed}
 use Rattle.text.specs.Lines.{joined}
-use Rattle.files.specs.Output.{spread, endRoom}
+use Rattle.steps.specs.Output.{spread, endRoom}
 use Rattle.files.specs.Replay.{Told, writtenFirst, toldOf, notesAndEnd, replayOf, configuredReplayOf, recordOf, explanationOf, longestLine, lineLimit, freshReplay, portionRoom, fed, writes, takes, fedBy, fedIf, feedAnswer, writesIf, feedWrites, endsWith, finishIf, finishWrites}
 use Rattle.files.specs.device.Calls.{Sound}
 use Rattle.checks.proofs.Tests.{both-true, leb-iff}

@@ -26,17 +26,17 @@ use Rattle.config.specs.declared.reader.Fault.{Fault}
 use Rattle.config.specs.declared.reader.ConfigRead.{ConfigRead}
 use Rattle.config.specs.declared.reader.ConfigRead.the-variants.{Accepted, Refused}
 use Rattle.config.specs.Config.{configOf}
-use Rattle.files.specs.declared.configuration.Configuration.{Configuration}
-use Rattle.files.specs.declared.configuration.Configuration.the-variants.{Absent, Given}
-use Rattle.files.specs.declared.output.Form.{Form}
-use Rattle.files.specs.declared.output.Form.the-variants.{Changes, Record, Explain}
-use Rattle.files.specs.declared.progress.Stage.{Stage}
-use Rattle.files.specs.declared.progress.Stage.the-variants.{Opening, Running, Stopped}
-use Rattle.files.specs.declared.progress.Progress.{Progress}
-use Rattle.files.specs.Refusals.{wrongLastSample}
-use Rattle.files.specs.Configuration.{afterSettings, lastRefusal}
-use Rattle.files.specs.Output.{noteOf, endLine}
-use Rattle.files.specs.Progress.{freshProgress, stopped, opened, ticked, rowDone, stepped, noted, afterBy, afterLine, wroteBy, wroteLine, stageRefusal, endOf}
+use Rattle.steps.specs.declared.configuration.Configuration.{Configuration}
+use Rattle.steps.specs.declared.configuration.Configuration.the-variants.{Absent, Given}
+use Rattle.steps.specs.declared.output.Form.{Form}
+use Rattle.steps.specs.declared.output.Form.the-variants.{Changes, Record, Explain}
+use Rattle.steps.specs.declared.progress.Stage.{Stage}
+use Rattle.steps.specs.declared.progress.Stage.the-variants.{Opening, Running, Stopped}
+use Rattle.steps.specs.declared.progress.Progress.{Progress}
+use Rattle.steps.specs.Refusals.{wrongLastSample}
+use Rattle.steps.specs.Configuration.{afterSettings, lastRefusal}
+use Rattle.steps.specs.Output.{noteOf, endLine}
+use Rattle.steps.specs.Progress.{freshProgress, stopped, opened, ticked, rowDone, stepped, noted, afterBy, afterLine, wroteBy, wroteLine, stageRefusal, endOf}
 use Rattle.files.specs.Replay.{writtenFirst, byLines, toldOf, notesAndEnd, replayOf, configuredReplayOf, afterLines}
 use Rattle.files.proofs.RefusedLaws.{stopped-ends}
 use Rattle.files.proofs.ReplayLaws.{onlyEnd, opening, kept-refusal, told-of-nothing, told-of-refused-settings}

@@ -15,12 +15,12 @@ use Rattle.rows.specs.Row.{rowAnswer}
 use Rattle.rows.specs.SettingsLine.{settingsLineAnswer}
 use Rattle.text.specs.declared.lines.Closer.the-variants.{CrLf}
 use Rattle.text.specs.Lines.{linesOf}
-use Rattle.files.specs.declared.configuration.Configuration.the-variants.{Absent}
-use Rattle.files.specs.declared.output.Form.the-variants.{Explain}
-use Rattle.files.specs.declared.progress.Stage.{Stage}
-use Rattle.files.specs.declared.progress.Stage.the-variants.{Opening, Running, Stopped}
-use Rattle.files.specs.declared.progress.Progress.{Progress}
-use Rattle.files.specs.Progress.{freshProgress, stepped, afterBy, afterLine, wroteBy, wroteLine}
+use Rattle.steps.specs.declared.configuration.Configuration.the-variants.{Absent}
+use Rattle.steps.specs.declared.output.Form.the-variants.{Explain}
+use Rattle.steps.specs.declared.progress.Stage.{Stage}
+use Rattle.steps.specs.declared.progress.Stage.the-variants.{Opening, Running, Stopped}
+use Rattle.steps.specs.declared.progress.Progress.{Progress}
+use Rattle.steps.specs.Progress.{freshProgress, stepped, afterBy, afterLine, wroteBy, wroteLine}
 use Rattle.files.specs.Replay.{Told, byLines, toldOf, explanationOf, afterLines, wroteLines}
 use Rattle.files.proofs.NeverRefused.{row-allowed, no-tick-refused, accepted-row-is-done}
 use Rattle.files.proofs.PortionLaws.{by-lines-append}

@@ -15,15 +15,16 @@ use Rattle.text.specs.declared.cutter.Cutter.{Cutter}
 use Rattle.text.specs.declared.cutter.PieceCut.{PieceCut}
 use Rattle.text.specs.Lines.{Cutting, oneMore, cuttingBy, cutSoFar, cutting}
 use Rattle.text.specs.Cutter.{heldRoom, emptyCutter, heldLine, heldAfter, cutterAfter, pieceAnswer}
-use Rattle.files.specs.declared.output.Form.{Form}
-use Rattle.files.specs.declared.output.Form.the-variants.{Changes, Record, Explain}
-use Rattle.files.specs.declared.progress.Noted.{Noted}
+use Rattle.steps.specs.declared.output.Form.{Form}
+use Rattle.steps.specs.declared.output.Form.the-variants.{Changes, Record, Explain}
+use Rattle.steps.specs.declared.progress.Noted.{Noted}
 use Rattle.files.specs.declared.replay.Replay.{Replay}
 use Rattle.files.specs.declared.replay.Fed.{Fed}
-use Rattle.files.specs.Output.{spread}
-use Rattle.files.specs.Progress.{afterLine, wroteLine}
+use Rattle.steps.specs.Output.{spread}
+use Rattle.steps.specs.Progress.{afterLine, wroteLine}
 use Rattle.files.specs.Replay.{lineLimit, afterLines, wroteLines, withLong, linesIn, cutPortion, fedCut, fed, writes}
-use Rattle.files.specs.device.Calls.{LineNoted, PortionFed}
+use Rattle.steps.specs.device.Calls.{LineNoted}
+use Rattle.files.specs.device.Calls.{PortionFed}
 use Rattle.text.proofs.StoreLaws.{sets-append}
 use Rattle.text.proofs.PieceLaws.{PieceTaken, piece-taken, cutting-goes-on}
 use Rattle.text.proofs.KeptLaws.{line-taken}

@@ -1,5 +1,3 @@
-pub mod OutputLaws
-pub mod ProgressLaws
 pub mod RefusedLaws
 pub mod QuietLaws
 pub mod PortionLaws

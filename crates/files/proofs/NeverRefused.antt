@@ -12,18 +12,18 @@ use Rattle.relay.specs.declared.tick.RelayTicked.{RelayTicked}
 use Rattle.relay.specs.Tick.{relayTickRefusal}
 use Rattle.relay.proofs.RelayLaws.{clear-relay-is-valid, relay-tick-allowed, relay-tick-accepted, relay-tick-keeps-valid}
 use Rattle.config.specs.declared.reader.ConfigRead.the-variants as config-read
-use Rattle.files.specs.declared.configuration.Configuration.{Configuration}
-use Rattle.files.specs.declared.configuration.Configuration.the-variants.{Absent, Given}
-use Rattle.files.specs.declared.progress.Progress.{Progress}
-use Rattle.files.specs.declared.progress.Stage.{Stage}
-use Rattle.files.specs.declared.progress.Stage.the-variants.{Opening, Running, Stopped}
+use Rattle.steps.specs.declared.configuration.Configuration.{Configuration}
+use Rattle.steps.specs.declared.configuration.Configuration.the-variants.{Absent, Given}
+use Rattle.steps.specs.declared.progress.Progress.{Progress}
+use Rattle.steps.specs.declared.progress.Stage.{Stage}
+use Rattle.steps.specs.declared.progress.Stage.the-variants.{Opening, Running, Stopped}
 use Rattle.rows.specs.declared.row.Row.{Row}
 use Rattle.rows.specs.declared.row.RowRead.{RowRead}
 use Rattle.rows.specs.declared.row.RowRead.the-variants as row
 use Rattle.rows.specs.declared.settings_line.SettingsRead.{SettingsRead}
 use Rattle.rows.specs.declared.settings_line.SettingsRead.the-variants as settings-line
-use Rattle.files.specs.Configuration.{afterSettings}
-use Rattle.files.specs.Progress.{freshProgress, opened, ticked, rowDone, afterTick, stepped, afterBy, afterLine}
+use Rattle.steps.specs.Configuration.{afterSettings}
+use Rattle.steps.specs.Progress.{freshProgress, opened, ticked, rowDone, afterTick, stepped, afterBy, afterLine}
 use Rattle.files.specs.Replay.{afterLines}
 use Rattle.rows.specs.Row.{rowAnswer}
 use Rattle.rows.specs.SettingsLine.{settingsLineAnswer}

@@ -8,18 +8,18 @@ use native.Mathlib.Omega.{arith}
 use lib.Dec.{ltb}
 use lib.ListN.{length, length-take}
 use borrow.Author.Tests.{leb-true, ltb-true, ltb-false}
-use Rattle.files.specs.declared.configuration.Configuration.{Configuration}
-use Rattle.files.specs.declared.output.Form.{Form}
-use Rattle.files.specs.declared.output.Form.the-variants.{Changes, Record, Explain}
-use Rattle.files.specs.declared.progress.Stage.{Stage}
-use Rattle.files.specs.declared.progress.Stage.the-variants.{Stopped}
-use Rattle.files.specs.declared.progress.Progress.{Progress}
+use Rattle.steps.specs.declared.configuration.Configuration.{Configuration}
+use Rattle.steps.specs.declared.output.Form.{Form}
+use Rattle.steps.specs.declared.output.Form.the-variants.{Changes, Record, Explain}
+use Rattle.steps.specs.declared.progress.Stage.{Stage}
+use Rattle.steps.specs.declared.progress.Stage.the-variants.{Stopped}
+use Rattle.steps.specs.declared.progress.Progress.{Progress}
 use Rattle.files.specs.declared.replay.Replay.{Replay}
 use Rattle.text.specs.declared.lines.Closer.the-variants.{CrLf}
 use Rattle.text.specs.Lines.{linesFrom, Cutting, joined}
 use Rattle.text.specs.Cutter.{heldLine, cutterAfter}
 use Rattle.rows.specs.declared.refusal.Refusal.{Refusal}
-use Rattle.files.specs.Progress.{afterBy, afterLine, wroteLine}
+use Rattle.steps.specs.Progress.{afterBy, afterLine, wroteLine}
 use Rattle.files.specs.Replay.{Told, endAlone, writtenFirst, byLines, toldOf, lineLimit, freshReplay, afterLines, wroteLines, withLong, linesIn, afterIf, cutPortion, fed, fedAll, Reached, writes, lastProgress, isAnswered}
 use Rattle.files.specs.device.Calls.{Sound}
 use Rattle.text.proofs.CutLaws.{lines-nil, last-nothing, joined-none, joined-more}

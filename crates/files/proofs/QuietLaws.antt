@@ -17,12 +17,12 @@ use Rattle.rows.specs.declared.settings_line.SettingsRead.the-variants as setti
 use Rattle.rows.specs.Refusal.{withoutPlace}
 use Rattle.rows.specs.Row.{rowAnswer}
 use Rattle.rows.specs.SettingsLine.{settingsLineAnswer}
-use Rattle.files.specs.declared.output.Form.the-variants.{Explain}
-use Rattle.files.specs.declared.progress.Stage.{Stage}
-use Rattle.files.specs.declared.progress.Stage.the-variants.{Opening, Running, Stopped}
-use Rattle.files.specs.declared.progress.Progress.{Progress}
-use Rattle.files.specs.Output.{explainedOf}
-use Rattle.files.specs.Progress.{stopped, opened, ticked, rowDone, stepped, noted, afterBy, afterLine, wroteBy}
+use Rattle.steps.specs.declared.output.Form.the-variants.{Explain}
+use Rattle.steps.specs.declared.progress.Stage.{Stage}
+use Rattle.steps.specs.declared.progress.Stage.the-variants.{Opening, Running, Stopped}
+use Rattle.steps.specs.declared.progress.Progress.{Progress}
+use Rattle.steps.specs.Output.{explainedOf}
+use Rattle.steps.specs.Progress.{stopped, opened, ticked, rowDone, stepped, noted, afterBy, afterLine, wroteBy}
 use Rattle.files.specs.Replay.{byLines, afterLines, wroteLines}
 
 -- ---- rows done: a line does one row at most, and they never fall

@@ -1,15 +1,15 @@
 -- Lines that are refused whatever follows, and a replay that has stopped.
 -- Assumes nothing.
-use mathlib.Core.Path.{_≡_, refl, sym, ap, _∙_}
+use mathlib.Core.Path.{_≡_, refl, ap, _∙_}
 use mathlib.Core.Bool.{false}
 use mathlib.Core.List.{List, [], _∷_, _++_}
 use Prim.Native.Nat.{ℕ, _≤_, _<_}
 use native.Mathlib.Omega.{arith}
 use lib.ListN.{length, length-append}
-use Rattle.files.specs.declared.output.Form.{Form}
-use Rattle.files.specs.declared.progress.Stage.{Stage}
-use Rattle.files.specs.declared.progress.Stage.the-variants.{Opening, Running, Stopped}
-use Rattle.files.specs.declared.progress.Progress.{Progress}
+use Rattle.steps.specs.declared.output.Form.{Form}
+use Rattle.steps.specs.declared.progress.Stage.{Stage}
+use Rattle.steps.specs.declared.progress.Stage.the-variants.{Opening, Running, Stopped}
+use Rattle.steps.specs.declared.progress.Progress.{Progress}
 use Rattle.text.specs.Line.{endsCrLf, rightShape}
 use Rattle.text.specs.declared.lines.Closer.the-variants.{CrLf}
 use Rattle.text.specs.Lines.{linesFrom}
@@ -17,15 +17,13 @@ use Rattle.text.proofs.ShapeLaws.{right-ends}
 use Rattle.text.proofs.RightLaws.{Faulty, wrong-faulty}
 use Rattle.text.proofs.CutLaws.{lines-cons, lines-nil, last-line}
 use Rattle.rows.specs.declared.refusal.Refusal.{Refusal}
-use Rattle.rows.specs.declared.row.RowRead.{RowRead}
-use Rattle.rows.specs.declared.settings_line.SettingsRead.{SettingsRead}
 use Rattle.rows.specs.Refusal.{misshapen}
 use Rattle.rows.specs.Row.{rowWidths}
 use Rattle.rows.specs.SettingsLine.{settingsWidths}
 use Rattle.rows.proofs.RowLaws.{row-misshapen}
 use Rattle.rows.proofs.SettingsLineLaws.{settings-misshapen}
 use Rattle.rows.proofs.FrontLaws.{long-faulty, row-front, settings-front}
-use Rattle.files.specs.Progress.{stopped, opened, stepped, afterBy, wroteBy, afterLine, wroteLine}
+use Rattle.steps.specs.Progress.{stopped, opened, stepped, afterBy, wroteBy, afterLine, wroteLine}
 use Rattle.files.specs.Replay.{endAlone, writtenFirst, byLines, lineLimit}
 use Rattle.checks.proofs.Cases.{by-cond, not-both, not-true}
 

@@ -10,27 +10,27 @@ use borrow.Author.Tests.{ne-eqb}
 use Rattle.config.specs.declared.reader.ConfigRead.the-variants as config-read
 use Rattle.rows.specs.declared.settings_line.SettingsRead.{SettingsRead}
 use Rattle.rows.specs.declared.settings_line.SettingsRead.the-variants.{Accepted}
-use Rattle.files.specs.declared.configuration.Configuration.{Configuration}
-use Rattle.files.specs.declared.configuration.Configuration.the-variants.{Absent, Given}
-use Rattle.files.specs.declared.output.Form.{Form}
-use Rattle.files.specs.declared.output.Form.the-variants.{Changes, Record}
-use Rattle.files.specs.declared.progress.Progress.{Progress}
+use Rattle.steps.specs.declared.configuration.Configuration.{Configuration}
+use Rattle.steps.specs.declared.configuration.Configuration.the-variants.{Absent, Given}
+use Rattle.steps.specs.declared.output.Form.{Form}
+use Rattle.steps.specs.declared.output.Form.the-variants.{Changes, Record}
+use Rattle.steps.specs.declared.progress.Progress.{Progress}
 use Rattle.text.specs.declared.fault.Shape.the-variants.{Wrong}
-use Rattle.text.specs.Line.{isLf, fieldsIn, numbersOf}
-use Rattle.text.specs.Fault.{countOf, lastOf, digitsIn, sinceCr, faultsFrom, lowestOf, told, shapeOf}
+use Rattle.text.specs.Line.{numbersOf}
 use Rattle.rows.specs.SettingsLine.{settingsWidths, settingsIn, settingsLineRefusal, settingsLineAnswer}
-use Rattle.files.specs.Configuration.{lastRefusal}
-use Rattle.files.specs.Output.{endLine}
+use Rattle.steps.specs.Configuration.{lastRefusal}
+use Rattle.steps.specs.Output.{endLine}
 use Rattle.text.specs.declared.lines.Closer.the-variants.{CrLf}
 use Rattle.text.specs.Lines.{linesOf}
 use Rattle.rows.specs.declared.refusal.Refusal.{Refusal}
 use Rattle.rows.specs.declared.refusal.Hint.the-variants.{None}
 use Rattle.rows.specs.Refusals.{noDigit}
 use Rattle.rows.specs.Refusal.{misshapen}
-use Rattle.files.specs.Progress.{freshProgress, stopped, opened, afterBy, afterLine, wroteBy, stageRefusal}
+use Rattle.steps.specs.Progress.{freshProgress, stopped, opened, afterBy, afterLine, wroteBy, stageRefusal}
 use Rattle.files.specs.Replay.{Told, endAlone, byLines, toldOf, notesAndEnd, replayOf, recordOf}
 use Rattle.rows.proofs.SettingsLineLaws.{settings-by, settings-refused, settings-answer, settings-line-passed}
 use Rattle.rows.proofs.AnswerNumbers.{flaw-refused}
+use Rattle.steps.proofs.ProgressLaws.{empty-line}
 use Rattle.files.proofs.RefusedLaws.{open-misshapen, stopped-ends}
 use Rattle.text.proofs.CutLaws.{lines-nil, last-nothing, last-line}
 use Rattle.text.proofs.LinesLaws.{hasCrLf, has-ends, open-input, line-first}
@@ -65,11 +65,6 @@ pub kept-refusal : (c : Configuration) (done : ℕ) (x : Refusal) → (x .number
 kept-refusal Absent done x k = refl
 kept-refusal (Given (config-read.Accepted last)) done x k = rw (ne-eqb (x .number) 0 k)
 kept-refusal (Given (config-read.Refused y)) done x k = refl
-
--- an empty line: "an empty input is one with no digit", at its end, in the first field
-pub empty-line : settingsLineRefusal [] ≡ record { number = noDigit; offset = 0; field = 1; hint = None }
-unfolding settingsLineRefusal shapeOf told faultsFrom lowestOf countOf lastOf fieldsIn digitsIn sinceCr isLf
-empty-line = refl
 
 module _ (form : Form) (c : Configuration) where
   -- "an empty input is one with no digit"

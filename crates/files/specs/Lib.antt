@@ -1,6 +1,2 @@
-pub mod Refusals
-pub mod Configuration
-pub mod Output
-pub mod Progress
 pub mod Replay
 pub mod device

@@ -13,17 +13,17 @@ use Rattle.text.specs.Lines.{linesOf, Cutting, cutting}
 use Rattle.text.specs.Cutter.{emptyCutter, heldLine, cutterAfter}
 use Rattle.config.specs.Config.{configOf}
 use Rattle.rows.specs.declared.refusal.Refusal.{Refusal}
-use Rattle.files.specs.declared.configuration.Configuration.{Configuration}
-use Rattle.files.specs.declared.configuration.Configuration.the-variants.{Absent, Given}
-use Rattle.files.specs.declared.output.Form.{Form}
-use Rattle.files.specs.declared.output.Form.the-variants.{Changes, Record, Explain}
-use Rattle.files.specs.declared.progress.Stage.{Stage}
-use Rattle.files.specs.declared.progress.Stage.the-variants.{Opening, Running, Stopped}
-use Rattle.files.specs.declared.progress.Progress.{Progress}
+use Rattle.steps.specs.declared.configuration.Configuration.{Configuration}
+use Rattle.steps.specs.declared.configuration.Configuration.the-variants.{Absent, Given}
+use Rattle.steps.specs.declared.output.Form.{Form}
+use Rattle.steps.specs.declared.output.Form.the-variants.{Changes, Record, Explain}
+use Rattle.steps.specs.declared.progress.Stage.{Stage}
+use Rattle.steps.specs.declared.progress.Stage.the-variants.{Opening, Running, Stopped}
+use Rattle.steps.specs.declared.progress.Progress.{Progress}
 use Rattle.files.specs.declared.replay.Replay.{Replay}
 use Rattle.files.specs.declared.replay.Fed.{Fed}
-use Rattle.files.specs.Output.{spread, endRoom}
-use Rattle.files.specs.Progress.{freshProgress, afterLine, wroteLine, endRefusal, endOf}
+use Rattle.steps.specs.Output.{spread, endRoom}
+use Rattle.steps.specs.Progress.{freshProgress, afterLine, wroteLine, endRefusal, endOf}
 
 -- ---- the whole input
 

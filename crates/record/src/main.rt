@@ -1,10 +1,10 @@
 // The program `record`: a settings line and data rows on standard input, a row of the relay's record for each row done on
 // standard output; where the input was refused or a call of the system failed, one line on standard error.
-use files::Configuration;
-use files::Form;
 use files::LONGEST_LINE;
-use files::RECORD_SPREAD;
 use runs::PORTION;
+use steps::Configuration;
+use steps::Form;
+use steps::RECORD_SPREAD;
 
 // Room for the rows of a portion, whatever the state holds.
 const ROOM: usize = RECORD_SPREAD * (LONGEST_LINE + PORTION);

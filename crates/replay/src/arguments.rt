@@ -1,6 +1,6 @@
 // The arguments of the program: none, or `--config` and the name of a configuration file.
-use files::Configuration;
 use libc::PATH_MAX;
+use steps::Configuration;
 use text::bytes::read64;
 
 // Whether the first argument is `--config`: eight bytes, compared as one number.

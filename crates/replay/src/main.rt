@@ -2,10 +2,10 @@
 // output; why a recording was refused, on standard error.
 mod arguments;
 
-use files::END_ROOM;
-use files::Form;
 use files::LONGEST_LINE;
 use runs::PORTION;
+use steps::END_ROOM;
+use steps::Form;
 
 // Room for the change lines of a portion, whatever the state holds.
 const ROOM: usize = LONGEST_LINE + PORTION;

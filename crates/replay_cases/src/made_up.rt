@@ -1,11 +1,11 @@
 // A state that no replay reaches: rows are due, and no settings were accepted.
 use crate::line::say;
-use files::Configuration;
-use files::END_ROOM;
-use files::Form;
-use files::Progress;
 use files::Replay;
-use files::Stage;
+use steps::Configuration;
+use steps::END_ROOM;
+use steps::Form;
+use steps::Progress;
+use steps::Stage;
 
 fn without_settings() -> Replay {
     let fresh = Replay::fresh(Form::Changes, Configuration::Absent);

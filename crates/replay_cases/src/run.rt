@@ -1,9 +1,9 @@
 // A replay in memory: of an input whole, cut at a place, and in small pieces.
 use crate::line::say;
 use crate::line::say_count;
-use files::Configuration;
-use files::Form;
 use files::Replay;
+use steps::Configuration;
+use steps::Form;
 ghost use Prim.Native.Nat.{_≤_, _<_};
 ghost use lib.ListN.{length};
 

@@ -1,7 +1,7 @@
 -- From the line that was read to the row's answer; and what an answer tells of its row.
 -- Assumes nothing.
 use mathlib.Core.Path.{_≡_, refl, sym, ap, _∙_}
-use mathlib.Core.Bool.{true, false, cond}
+use mathlib.Core.Bool.{true, cond}
 use mathlib.Core.List.{List, [], _∷_}
 use Prim.Native.Nat.{ℕ, _+_, _^_, _≤_, _<_}
 use native.Mathlib.Omega.{arith}
@@ -15,7 +15,7 @@ use Rattle.text.specs.declared.reader.Line.{Line}
 use Rattle.rows.specs.declared.row.Row.{Row}
 use Rattle.rows.specs.declared.row.RowRead.{RowRead}
 use Rattle.rows.specs.declared.row.RowRead.the-variants.{Accepted, Refused}
-use Rattle.text.specs.Line.{rightShape, numbersOf, fitsIn}
+use Rattle.text.specs.Line.{numbersOf, fitsIn}
 use Rattle.text.specs.Fault.{shapeOf}
 use Rattle.text.specs.Reader.{lineAnswer}
 use Rattle.text.specs.Decimals.{decimals, lineOf}

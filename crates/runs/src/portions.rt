@@ -1,8 +1,8 @@
 // The replay of standard input, portion by portion.
-use files::Configuration;
 use files::Fed;
-use files::Form;
 use files::Replay;
+use steps::Configuration;
+use steps::Form;
 ghost use mathlib.Core.Path.{_≡_};
 ghost use Prim.Native.Nat.{_≤_};
 ghost use lib.ListN.{length};

@@ -4,14 +4,14 @@ ghost use Rattle.files.specs.Replay.{refusalAtEnd};
 use crate::words::say_hint;
 use crate::words::say_refusal;
 use config::ConfigRead;
-use files::Configuration;
-use files::END_ROOM;
-use files::Form;
 use files::Replay;
-use files::refusals::WRONG_LAST_SAMPLE;
 use program::say;
 use program::say_number;
 use rows::Refusal;
+use steps::Configuration;
+use steps::END_ROOM;
+use steps::Form;
+use steps::refusals::WRONG_LAST_SAMPLE;
 
 // The end line without its LF.
 fn say_end(state: Replay) {

@@ -17,7 +17,7 @@ use Rattle.text.specs.declared.fault.Shape.the-variants.{Right, Wrong}
 use Rattle.text.specs.declared.reader.Closing.the-variants.{Last}
 use Rattle.text.specs.Number.{isDigit}
 use Rattle.text.specs.Line.{comma, cr, lf, isLf}
-use Rattle.text.specs.Fault.{isEmpty, begins, beginsDigit, beginsStray, countOf, fieldAt, noCr, sinceCr, rightAfterCr, rightAfterCrLf, stands, inOrder, faultAt, faultsOf, faultsHere, faultsFrom, lowestOf, told}
+use Rattle.text.specs.Fault.{isEmpty, begins, beginsDigit, beginsStray, countOf, fieldAt, noCr, sinceCr, rightAfterCrLf, stands, inOrder, faultAt, faultsOf, faultsHere, faultsFrom, lowestOf, told}
 use Rattle.text.specs.device.Closing.{flawedAt, endingOf, closesNone, closingBy, shapeBy}
 use Rattle.checks.proofs.Cases.{by-cond}
 use Rattle.text.proofs.LackLaws.{Each}

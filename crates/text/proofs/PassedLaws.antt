@@ -1,13 +1,13 @@
 -- A text of digits and commas, and what one byte more makes of it: its fields, and how often a byte stands in it.
 -- Assumes nothing.
 use mathlib.Core.Path.{_≡_, refl, sym, ap, _∙_}
-use mathlib.Core.Bool.{Bool, true, false, cond, _&&_}
+use mathlib.Core.Bool.{Bool, true, false, cond}
 use mathlib.Core.List.{List, [], _∷_, _++_}
-use Prim.Native.Nat.{ℕ, suc, _+_, _≤_, _<_}
+use Prim.Native.Nat.{ℕ, _+_, _≤_}
 use native.Mathlib.Omega.{arith}
 use lib.Dec.{eqb, lit<}
 use lib.ListN.{length, length-append}
-use borrow.Author.Tests.{eq-eqb, ne-eqb, eqb-true}
+use borrow.Author.Tests.{eq-eqb}
 use Rattle.text.specs.Number.{isDigit, allDigits}
 use Rattle.text.specs.Line.{comma, cr, intoFirst, fieldsIn}
 use Rattle.text.specs.Fault.{countOf, lastOf, begun, digitsIn, sinceCr}

@@ -9,7 +9,7 @@ use native.Mathlib.Numerals.{add-one}
 use native.Mathlib.Omega.{arith}
 use lib.Dec.{eqb, lit<}
 use lib.ListN.{length, getD, take, drop, set, replicate, length-append, length-drop, List·getD-eq-default}
-use lib.Seq.{sets, length-sets, length-take-le, take-suc, drop-cons, getD-drop}
+use lib.Seq.{length-take-le, take-suc, drop-cons, getD-drop}
 use borrow.Author.Tests.{eqb-true, eqb-false}
 use Rattle.text.specs.declared.fault.Fault.{Fault}
 use Rattle.text.specs.declared.fault.Flaw.the-variants.{DigitTooMany, LineEnd}
@@ -19,9 +19,9 @@ use Rattle.text.specs.declared.reader.Line.{Line}
 use Rattle.text.specs.declared.reader.Closing.{Closing}
 use Rattle.text.specs.declared.reader.Closing.the-variants.{Next, Last, Flawed}
 use Rattle.text.specs.Number.{isDigit, valueFrom, valueOf}
-use Rattle.text.specs.Line.{comma, lf, fieldsIn, body, valuesOf, numbersOf}
+use Rattle.text.specs.Line.{comma, lf, valuesOf, numbersOf}
 use Rattle.text.specs.Fault.{isEmpty, begins, beginsDigit, faultsFrom, told, shapeOf}
-use Rattle.text.specs.Reader.{fieldLimit, placed, wrongLine, lineBy, lineAnswer}
+use Rattle.text.specs.Reader.{fieldLimit, placed, wrongLine, lineAnswer}
 use Rattle.text.specs.device.Closing.{flawedAt, endingOf, closesNone, closingBy, closingOf, shapeBy}
 use Rattle.checks.proofs.Cases.{not-both}
 use Rattle.checks.proofs.Tests.{in-range}
@@ -146,9 +146,6 @@ read-first ws s h = record {
 module _ (ws s : List ℕ) (at k digits value : ℕ) (numbers : List ℕ) (r : FieldRead ws s at k digits value numbers) where
   abbrev t : List ℕ
   t = take at s
-
-  pub numbers-room : length numbers ≡ fieldLimit
-  numbers-room = ap length (r .kept) ∙ length-sets (replicate fieldLimit 0) 0 (valuesOf (r .done))
 
   at-length : length t ≡ at
   at-length = length-take-le at s (r .within)

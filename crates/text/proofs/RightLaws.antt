@@ -9,7 +9,7 @@ use native.Mathlib.Omega.{arith}
 use lib.Dec.{leb, ltb, eqb, lit<}
 use lib.ListN.{length, getD, drop, length-append, drop-of-length-le}
 use lib.Seq.{drop-cons}
-use borrow.Author.Tests.{eq-eqb, ne-eqb, eqb-true, eqb-false, le-leb, lt-leb, ltb-true, ltb-false}
+use borrow.Author.Tests.{ne-eqb, eqb-true, eqb-false, le-leb, lt-leb, ltb-true, ltb-false}
 use Rattle.text.specs.declared.fault.Flaw.the-variants.{LineEnd}
 use Rattle.text.specs.declared.fault.Fault.{Fault}
 use Rattle.text.specs.declared.fault.Shape.{Shape}
@@ -18,8 +18,8 @@ use Rattle.text.specs.declared.reader.Closing.{Closing}
 use Rattle.text.specs.declared.reader.Closing.the-variants.{Last}
 use Rattle.text.specs.Number.{isDigit, leading}
 use Rattle.text.specs.Line.{comma, cr, lf, isLf, rightShape}
-use Rattle.text.specs.Fault.{isEmpty, begins, faultsFrom, told, shapeOf, isRight}
-use Rattle.text.specs.device.Closing.{flawedAt, endingOf, closesNone, closingBy, shapeBy}
+use Rattle.text.specs.Fault.{faultsFrom, told, shapeOf, isRight}
+use Rattle.text.specs.device.Closing.{flawedAt, endingOf, closingBy, shapeBy}
 use Rattle.checks.proofs.Cases.{not-both}
 use Rattle.text.proofs.DigitLaws.{digit-is-not}
 use Rattle.text.proofs.ScanLaws.{fieldCloser, scans, closer-at}

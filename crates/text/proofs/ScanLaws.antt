@@ -2,16 +2,15 @@
 -- and a comma after any other. `ShapeLaws` says that it finds exactly the lines of right shape.
 -- Assumes nothing.
 use mathlib.Core.Path.{_≡_, sym, ap, _∙_}
-use mathlib.Core.Bool.{Bool, true, false, cond, _&&_, and-false}
+use mathlib.Core.Bool.{Bool, true, cond, _&&_}
 use mathlib.Core.List.{List, [], _∷_}
-use Prim.Native.Nat.{ℕ, zero, suc, _+_, _-_, _*_, _^_, _≤_, _<_}
-use native.Mathlib.Nat.{lt-of-not-le}
+use Prim.Native.Nat.{ℕ, zero, suc, _+_, _*_, _^_, _≤_, _<_}
 use native.Mathlib.Numerals.{add-one}
 use native.Mathlib.Omega.{arith}
 use lib.Dec.{leb, eqb, lit<}
-use lib.ListN.{length, getD, drop, set, length-drop, drop-of-length-le, List·getD-eq-default}
-use lib.Seq.{sets, drop-cons, drop-length, drop-drop, getD-drop}
-use borrow.Author.Tests.{le-leb, leb-true, eq-eqb, ne-eqb, eqb-true, eqb-false}
+use lib.ListN.{length, getD, drop, length-drop}
+use lib.Seq.{drop-cons, drop-length}
+use borrow.Author.Tests.{leb-true, eqb-true, eqb-false}
 use Rattle.text.specs.Number.{leading, valueOf, digitLimit}
 use Rattle.text.specs.Line.{cr, comma, isLf}
 use Rattle.text.specs.Reader.{narrow}

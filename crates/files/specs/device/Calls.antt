@@ -3,40 +3,17 @@
 use mathlib.Core.Path.{_≡_}
 use mathlib.Core.Bool.{true}
 use mathlib.Core.List.{List}
-use Prim.Native.Nat.{ℕ, _+_, _≤_, _<_}
+use Prim.Native.Nat.{ℕ, _≤_}
 use lib.ListN.{length}
 use lib.Seq.{sets}
 use Rattle.text.specs.declared.lines.Closer.the-variants.{CrLf}
 use Rattle.text.specs.declared.cutter.Cutter.{Cutter}
 use Rattle.text.specs.device.Calls.{Holds}
-use Rattle.rows.specs.declared.row.Row.{Row}
-use Rattle.rows.specs.Row.{lastRow, largestCurrent}
-use Rattle.files.specs.declared.output.Form.{Form}
-use Rattle.files.specs.declared.progress.Progress.{Progress}
-use Rattle.files.specs.declared.progress.Noted.{Noted}
+use Rattle.steps.specs.declared.output.Form.{Form}
+use Rattle.steps.specs.declared.progress.Progress.{Progress}
 use Rattle.files.specs.declared.replay.Replay.{Replay}
 use Rattle.files.specs.declared.replay.Fed.{Fed}
-use Rattle.files.specs.Output.{noteRoom}
 use Rattle.files.specs.Replay.{lineLimit, writes, portionRoom, fedBy}
-
--- the progress after a line, and the place after what it wrote
-abbrev pub notedOf : Progress → List ℕ → ℕ → Noted
-notedOf p w at = record { progress = p; written = at + length w }
-
--- the row after `done` rows can be noted: none of its numbers is too large, and the output has room
-pub record Notable (form : Form) (done : ℕ) (x : Row) (at room : ℕ) : Type 0 where
-  pub number : done < lastRow
-  pub first : x .l1 ≤ largestCurrent
-  pub second : x .l2 ≤ largestCurrent
-  pub third : x .l3 ≤ largestCurrent
-  pub free : at + noteRoom form ≤ room
-
--- a line was noted: the progress after it, and what it wrote at a place, at most `room` bytes
-pub record LineNoted (room : ℕ) (before after : List ℕ) (at : ℕ) (p : Progress) (bytes : List ℕ) (answer : Noted)
-    : Type 0 where
-  pub noted : answer ≡ notedOf p bytes at
-  pub output : after ≡ sets before at bytes
-  pub short : answer .written ≤ at + room
 
 -- a portion that was taken
 abbrev pub takenWith : Form → Progress → Cutter → ℕ → Fed

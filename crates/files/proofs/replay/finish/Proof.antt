@@ -5,7 +5,7 @@ use native.Mathlib.Omega.{arith}
 use lib.ListN.{length}
 use lib.Seq.{sets, length-sets}
 use borrow.Author.Needs.{needs}
-use Rattle.files.specs.Progress.{endOf}
+use Rattle.steps.specs.Progress.{endOf}
 use Rattle.files.proofs.AnswerLaws.{finish-cramped, finish-roomy}
 use Rattle.files.proofs.replay.finish.Statement.{statement}
 use Rattle.files.proofs.replay.finish.Tie as tie

@@ -2,7 +2,7 @@
 -- Assumes nothing.
 use mathlib.Core.Path.{ap, _∙_}
 use borrow.Author.Needs.{needs}
-use Rattle.files.specs.Progress.{endRefusal}
+use Rattle.steps.specs.Progress.{endRefusal}
 use Rattle.files.proofs.replay.refusal_at_end.Statement.{statement}
 use Rattle.files.proofs.replay.refusal_at_end.Tie as tie
 

@@ -1,10 +1,9 @@
 -- `rows::row::read_row` meets its contract: the shape, then the tests in the order of the refusal numbers.
 -- Assumes nothing.
-use mathlib.Core.Path.{sym, ap, _∙_}
+use mathlib.Core.Path.{ap, _∙_}
 use Prim.Native.Nat.{ℕ, _^_, _<_}
 use native.Mathlib.Omega.{arith}
 use lib.ListN.{length, getD}
-use Rattle.rows.specs.declared.refusal.Refusal.{Refusal}
 use Rattle.rows.specs.declared.row.RowRead.the-variants.{Refused}
 use Rattle.rows.specs.Row.{rowWidths}
 use Rattle.rows.proofs.RowLaws.{row-readable, row-fits, row-shape, row-number, row-block, row-accepted, row-told}

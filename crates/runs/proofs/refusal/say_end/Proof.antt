@@ -3,7 +3,7 @@
 use native.Mathlib.Omega.{arith}
 use lib.ListN.{length-take}
 use borrow.Author.Needs.{needs}
-use Rattle.files.specs.Output.{endRoom}
+use Rattle.steps.specs.Output.{endRoom}
 use Rattle.files.proofs.AnswerLaws.{finish-some}
 use Rattle.runs.proofs.refusal.say_end.Statement.{statement}
 use Rattle.runs.proofs.refusal.say_end.Tie as tie

@@ -1,7 +1,7 @@
 -- `text::reader::read_line` meets its contract: a turn of the outer loop is a field, one of the inner a digit, and what is left
 -- tells the fault of the whole.
 -- Assumes nothing.
-use mathlib.Core.Path.{refl, sym, ap, _∙_}
+use mathlib.Core.Path.{sym, ap, _∙_}
 use Prim.Native.Nat.{_-_}
 use native.Mathlib.Omega.{arith}
 use lib.ListN.{length, getD}
@@ -11,7 +11,7 @@ use Rattle.text.specs.Number.{isDigit}
 use Rattle.checks.proofs.Tests.{in-range}
 use Rattle.text.proofs.DigitLaws.{nine-digits}
 use Rattle.text.proofs.ScanLaws.{narrow-at}
-use Rattle.text.proofs.ReadingLaws.{FieldRead, read-first, read-digit, read-too-many, read-flawed, read-last, read-next, numbers-room}
+use Rattle.text.proofs.ReadingLaws.{FieldRead, read-first, read-digit, read-too-many, read-flawed, read-last, read-next}
 use Rattle.text.proofs.reader.read_line.Statement.{statement}
 use Rattle.text.proofs.reader.read_line.Tie as tie
 
