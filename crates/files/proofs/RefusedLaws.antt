@@ -14,7 +14,7 @@ use Rattle.text.specs.Line.{endsCrLf, rightShape}
 use Rattle.text.specs.declared.lines.Closer.the-variants.{CrLf}
 use Rattle.text.specs.Lines.{linesFrom}
 use Rattle.text.proofs.ShapeLaws.{right-ends}
-use Rattle.text.proofs.RightLaws.{Faulty, wrong-faulty}
+use Rattle.faults.proofs.RightLaws.{Faulty, wrong-faulty}
 use Rattle.text.proofs.CutLaws.{lines-cons, lines-nil, last-line}
 use Rattle.rows.specs.declared.refusal.Refusal.{Refusal}
 use Rattle.rows.specs.Refusal.{misshapen}

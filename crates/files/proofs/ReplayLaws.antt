@@ -15,7 +15,7 @@ use Rattle.steps.specs.declared.configuration.Configuration.the-variants.{Absen
 use Rattle.steps.specs.declared.output.Form.{Form}
 use Rattle.steps.specs.declared.output.Form.the-variants.{Changes, Record}
 use Rattle.steps.specs.declared.progress.Progress.{Progress}
-use Rattle.text.specs.declared.fault.Shape.the-variants.{Wrong}
+use Rattle.faults.specs.declared.fault.Shape.the-variants.{Wrong}
 use Rattle.text.specs.Line.{numbersOf}
 use Rattle.rows.specs.SettingsLine.{settingsWidths, settingsIn, settingsLineRefusal, settingsLineAnswer}
 use Rattle.steps.specs.Configuration.{lastRefusal}

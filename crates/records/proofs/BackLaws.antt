@@ -12,7 +12,7 @@ use Rattle.text.specs.Number.{decimalIn}
 use Rattle.text.specs.Line.{rightShape, numbersOf, fitsIn, spelled}
 use Rattle.text.specs.Decimals.{decimals}
 use Rattle.rows.proofs.NumberedLaws.{numbered-rest, numbered-passed}
-use Rattle.text.proofs.RightLaws.{right-faultless, faultless-shape}
+use Rattle.faults.proofs.RightLaws.{right-faultless, faultless-shape}
 use Rattle.text.proofs.ShapeLaws.{shape-most, fits-decimal}
 use Rattle.text.proofs.DecimalsLaws.{line-shaped, line-numbers, line-most}
 use Rattle.records.specs.declared.record_row.RecordRow.{RecordRow}

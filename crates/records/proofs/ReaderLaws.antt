@@ -7,13 +7,14 @@ use Prim.Native.Nat.{ℕ, _+_, _^_, _<_}
 use native.Mathlib.Omega.{arith}
 use lib.ListN.{length, getD, drop, replicate, length-drop}
 use lib.Seq.{drop-append-le, take-append-le}
-use Rattle.text.specs.declared.fault.Fault.{Fault}
-use Rattle.text.specs.declared.fault.Shape.the-variants.{Right, Wrong}
-use Rattle.text.specs.declared.reader.Line.{Line}
+use Rattle.faults.specs.declared.fault.Fault.{Fault}
+use Rattle.faults.specs.declared.fault.Shape.the-variants.{Right, Wrong}
+use Rattle.faults.specs.declared.reader.Line.{Line}
 use Rattle.text.specs.Line.{numbersOf}
-use Rattle.text.specs.Reader.{lineAnswer, fieldLimit}
-use Rattle.text.specs.device.Calls.{Readable}
-use Rattle.text.proofs.LineLaws.{line-front}
+use Rattle.text.specs.Line.{fieldLimit}
+use Rattle.faults.specs.Reader.{lineAnswer}
+use Rattle.faults.specs.device.Calls.{Readable}
+use Rattle.faults.proofs.LineLaws.{line-front}
 use Rattle.rows.specs.declared.refusal.Refusal.{Refusal}
 use Rattle.rows.specs.Refusals.{wrongNumber}
 use Rattle.rows.specs.Refusal.{misshapen, withoutPlace}

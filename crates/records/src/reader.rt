@@ -4,12 +4,12 @@ ghost use Rattle.records.specs.Reader.{recordRefusal, recordAnswer, reco
 use crate::record_row::RecordRow;
 use crate::refusals::WRONG_STATUS;
 use crate::status::read_status;
+use faults::fault::Shape;
+use faults::reader::read_line;
 use rows::Refusal;
 use rows::refusals::WRONG_NUMBER;
 use rows::refuse;
 use rows::refuse_shape;
-use text::fault::Shape;
-use text::reader::read_line;
 
 pub enum RecordRead {
     Accepted(RecordRow),

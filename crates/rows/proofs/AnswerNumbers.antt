@@ -8,10 +8,10 @@ use native.Mathlib.Omega.{arith}
 use lib.Dec.{eqb}
 use borrow.Author.Tests.{eqb-true, ne-eqb}
 use Rattle.checks.proofs.Cases.{by-cond}
-use Rattle.text.specs.declared.fault.Flaw.{Flaw}
-use Rattle.text.specs.declared.fault.Flaw.the-variants.{NoDigit, DigitTooMany, StrayByte, FieldCount, LineEnd}
-use Rattle.text.specs.declared.fault.Shape.{Shape}
-use Rattle.text.specs.declared.fault.Shape.the-variants.{Right, Wrong}
+use Rattle.faults.specs.declared.fault.Flaw.{Flaw}
+use Rattle.faults.specs.declared.fault.Flaw.the-variants.{NoDigit, DigitTooMany, StrayByte, FieldCount, LineEnd}
+use Rattle.faults.specs.declared.fault.Shape.{Shape}
+use Rattle.faults.specs.declared.fault.Shape.the-variants.{Right, Wrong}
 use Rattle.rows.specs.declared.refusal.Refusal.{Refusal}
 use Rattle.rows.specs.Refusal.{flawNumber, withoutPlace, accepted, lineRefusal}
 

@@ -5,13 +5,13 @@ use mathlib.Core.List.{List, _++_}
 use Prim.Native.Nat.{ℕ, _+_, _-_, _≤_, _<_}
 use native.Mathlib.Omega.{arith}
 use lib.ListN.{length, List·getD-append}
-use Rattle.text.specs.declared.fault.Fault.{Fault}
-use Rattle.text.specs.declared.fault.Shape.the-variants.{Wrong}
-use Rattle.text.specs.Fault.{shapeOf}
+use Rattle.faults.specs.declared.fault.Fault.{Fault}
+use Rattle.faults.specs.declared.fault.Shape.the-variants.{Wrong}
+use Rattle.faults.specs.Fault.{shapeOf}
 use Rattle.text.proofs.ScanLaws.{total}
 use Rattle.text.proofs.ShapeLaws.{shape-most}
-use Rattle.text.proofs.RightLaws.{Faulty, wrong-faulty}
-use Rattle.text.proofs.PlaceLaws.{offset-near, long-front-decides}
+use Rattle.faults.proofs.RightLaws.{Faulty, wrong-faulty}
+use Rattle.faults.proofs.PlaceLaws.{offset-near, long-front-decides}
 use Rattle.checks.proofs.Cases.{not-true}
 use Rattle.rows.specs.declared.row.RowRead.the-variants as row
 use Rattle.rows.specs.declared.settings_line.SettingsRead.the-variants as settings-line

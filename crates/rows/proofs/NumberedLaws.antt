@@ -7,14 +7,15 @@ use lib.ListN.{length, getD}
 use borrow.Author.Tests.{eq-eqb, ne-eqb, eqb-true}
 use Rattle.checks.specs.Checks.{firstFailed}
 use Rattle.checks.proofs.PassedLaws.{all-passed}
-use Rattle.text.specs.declared.fault.Fault.{Fault}
-use Rattle.text.specs.declared.fault.Shape.{Shape}
-use Rattle.text.specs.declared.fault.Shape.the-variants.{Right, Wrong}
-use Rattle.text.specs.declared.reader.Line.{Line}
+use Rattle.faults.specs.declared.fault.Fault.{Fault}
+use Rattle.faults.specs.declared.fault.Shape.{Shape}
+use Rattle.faults.specs.declared.fault.Shape.the-variants.{Right, Wrong}
+use Rattle.faults.specs.declared.reader.Line.{Line}
 use Rattle.text.specs.Line.{numbersOf}
-use Rattle.text.specs.Fault.{shapeOf}
-use Rattle.text.specs.Reader.{lineAnswer, fieldLimit}
-use Rattle.text.proofs.LineLaws.{line-shape, line-number}
+use Rattle.faults.specs.Fault.{shapeOf}
+use Rattle.text.specs.Line.{fieldLimit}
+use Rattle.faults.specs.Reader.{lineAnswer}
+use Rattle.faults.proofs.LineLaws.{line-shape, line-number}
 use Rattle.rows.specs.declared.refusal.Refusal.{Refusal}
 use Rattle.rows.specs.Refusals.{wrongNumber}
 use Rattle.rows.specs.Refusal.{misshapen, withoutPlace, accepted, lineRefusal}

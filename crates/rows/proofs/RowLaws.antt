@@ -8,18 +8,18 @@ use native.Mathlib.Omega.{arith}
 use lib.Dec.{leb}
 use lib.ListN.{length, getD}
 use borrow.Author.Tests.{le-leb, lt-leb, leb-true}
-use Rattle.text.specs.declared.fault.Fault.{Fault}
-use Rattle.text.specs.declared.fault.Shape.{Shape}
-use Rattle.text.specs.declared.fault.Shape.the-variants.{Right, Wrong}
-use Rattle.text.specs.declared.reader.Line.{Line}
+use Rattle.faults.specs.declared.fault.Fault.{Fault}
+use Rattle.faults.specs.declared.fault.Shape.{Shape}
+use Rattle.faults.specs.declared.fault.Shape.the-variants.{Right, Wrong}
+use Rattle.faults.specs.declared.reader.Line.{Line}
 use Rattle.rows.specs.declared.row.Row.{Row}
 use Rattle.rows.specs.declared.row.RowRead.{RowRead}
 use Rattle.rows.specs.declared.row.RowRead.the-variants.{Accepted, Refused}
 use Rattle.text.specs.Line.{numbersOf, fitsIn}
-use Rattle.text.specs.Fault.{shapeOf}
-use Rattle.text.specs.Reader.{lineAnswer}
+use Rattle.faults.specs.Fault.{shapeOf}
+use Rattle.faults.specs.Reader.{lineAnswer}
 use Rattle.text.specs.Decimals.{decimals, lineOf}
-use Rattle.text.specs.device.Calls.{Readable}
+use Rattle.faults.specs.device.Calls.{Readable}
 use Rattle.relay.specs.Refusals.{wrongBlock}
 use Rattle.rows.specs.declared.refusal.Refusal.{Refusal}
 use Rattle.rows.specs.Refusals.{wrongNumber}
@@ -28,7 +28,7 @@ use Rattle.rows.specs.Row.{lastRow, largestCurrent, rowWidths, rowOf, bl
 use Rattle.checks.proofs.Cases.{by-cond}
 use Rattle.rows.proofs.AnswerNumbers.{flaw-refused, answer-numbers, answer-refused}
 use Rattle.rows.proofs.NumberedLaws.{numbered-misshapen, numbered-rest, numbered-none, numbered-passed, read-shape, read-at, read-fits, read-number, read-rest}
-use Rattle.text.proofs.RightLaws.{right-faultless, faultless-shape}
+use Rattle.faults.proofs.RightLaws.{right-faultless, faultless-shape}
 use Rattle.text.proofs.ShapeLaws.{shape-least, number-below, fits-none, fits-decimal}
 use Rattle.text.proofs.DecimalsLaws.{line-shaped, line-numbers}
 

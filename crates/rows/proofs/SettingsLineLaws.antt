@@ -8,23 +8,23 @@ use native.Mathlib.Omega.{arith}
 use lib.ListN.{length, getD}
 use Rattle.phase.specs.declared.settings.Settings.{Settings}
 use Rattle.phase.specs.Settings.{settingsRefusal}
-use Rattle.text.specs.declared.fault.Fault.{Fault}
-use Rattle.text.specs.declared.fault.Shape.{Shape}
-use Rattle.text.specs.declared.fault.Shape.the-variants.{Right, Wrong}
-use Rattle.text.specs.declared.reader.Line.{Line}
+use Rattle.faults.specs.declared.fault.Fault.{Fault}
+use Rattle.faults.specs.declared.fault.Shape.{Shape}
+use Rattle.faults.specs.declared.fault.Shape.the-variants.{Right, Wrong}
+use Rattle.faults.specs.declared.reader.Line.{Line}
 use Rattle.rows.specs.declared.settings_line.SettingsRead.{SettingsRead}
 use Rattle.rows.specs.declared.settings_line.SettingsRead.the-variants.{Accepted, Refused}
 use Rattle.text.specs.Line.{rightShape, numbersOf}
-use Rattle.text.specs.Fault.{shapeOf}
-use Rattle.text.specs.Reader.{lineAnswer}
-use Rattle.text.specs.device.Calls.{Readable}
+use Rattle.faults.specs.Fault.{shapeOf}
+use Rattle.faults.specs.Reader.{lineAnswer}
+use Rattle.faults.specs.device.Calls.{Readable}
 use Rattle.rows.specs.declared.refusal.Refusal.{Refusal}
 use Rattle.rows.specs.Refusal.{misshapen, withoutPlace, accepted, lineRefusal}
 use Rattle.rows.specs.SettingsLine.{settingsWidths, settingsIn, settingsLineRefusal, settingsLineAnswer, settingsLineNumbers}
 use Rattle.rows.proofs.AnswerNumbers.{flaw-refused, no-refusal, answer-numbers, answer-refused}
 use Rattle.rows.proofs.NumberedLaws.{line-passed}
-use Rattle.text.proofs.LineLaws.{line-shape, line-number}
-use Rattle.text.proofs.RightLaws.{faultless-shape}
+use Rattle.faults.proofs.LineLaws.{line-shape, line-number}
+use Rattle.faults.proofs.RightLaws.{faultless-shape}
 
 pub settings-readable : Readable settingsWidths
 settings-readable = record { some = omega arith; few = omega arith; each = refl }

@@ -8,7 +8,7 @@ use Rattle.rows.specs.declared.refusal.Refusal.{Refusal}
 use Rattle.rows.specs.Refusals.{wrongNumber}
 use Rattle.rows.specs.Refusal.{lineRefusal}
 use Rattle.text.specs.Line.{numbersOf}
-use Rattle.text.specs.Fault.{shapeOf}
+use Rattle.faults.specs.Fault.{shapeOf}
 
 -- after a row of number `last`: 13 where the number "isn't one more than the last"
 abbrev pub numberedChecks : List ℕ → ℕ → List Check

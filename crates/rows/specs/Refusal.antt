@@ -4,11 +4,11 @@ use mathlib.Core.List.{List}
 use Prim.Native.Nat.{ℕ, _-_}
 use lib.Dec.{eqb}
 use lib.ListN.{getD}
-use Rattle.text.specs.declared.fault.Flaw.{Flaw}
-use Rattle.text.specs.declared.fault.Flaw.the-variants.{NoDigit, DigitTooMany, StrayByte, FieldCount, LineEnd}
-use Rattle.text.specs.declared.fault.Fault.{Fault}
-use Rattle.text.specs.declared.fault.Shape.{Shape}
-use Rattle.text.specs.declared.fault.Shape.the-variants.{Right, Wrong}
+use Rattle.faults.specs.declared.fault.Flaw.{Flaw}
+use Rattle.faults.specs.declared.fault.Flaw.the-variants.{NoDigit, DigitTooMany, StrayByte, FieldCount, LineEnd}
+use Rattle.faults.specs.declared.fault.Fault.{Fault}
+use Rattle.faults.specs.declared.fault.Shape.{Shape}
+use Rattle.faults.specs.declared.fault.Shape.the-variants.{Right, Wrong}
 use Rattle.text.specs.Number.{isDigit}
 use Rattle.text.specs.Line.{lf}
 use Rattle.rows.specs.declared.refusal.Hint.{Hint}

@@ -11,7 +11,7 @@ use Rattle.rows.specs.declared.settings_line.SettingsRead.the-variants.{
 use Rattle.rows.specs.declared.refusal.Refusal.{Refusal}
 use Rattle.rows.specs.Refusal.{accepted, lineRefusal}
 use Rattle.text.specs.Line.{numbersOf}
-use Rattle.text.specs.Fault.{shapeOf}
+use Rattle.faults.specs.Fault.{shapeOf}
 
 -- "The settings line holds the seven settings the same way, 1 to 5 digits each."
 abbrev pub settingsWidths : List ℕ

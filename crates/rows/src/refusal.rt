@@ -6,10 +6,10 @@ use crate::refusals::FIELD_COUNT;
 use crate::refusals::LINE_END;
 use crate::refusals::NO_DIGIT;
 use crate::refusals::STRAY_BYTE;
-use text::fault::Fault;
-use text::fault::Flaw;
-use text::reader::byte_at;
-use text::reader::is_digit;
+use faults::fault::Fault;
+use faults::fault::Flaw;
+use faults::reader::byte_at;
+use faults::reader::is_digit;
 
 // What a person is told beside the place: that LF stands where CR LF is due, or that the line begins with a byte order mark.
 pub enum Hint {

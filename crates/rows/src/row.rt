@@ -5,9 +5,9 @@ use crate::refusal::Refusal;
 use crate::refusal::refuse;
 use crate::refusal::refuse_shape;
 use crate::refusals::WRONG_NUMBER;
+use faults::fault::Shape;
+use faults::reader::read_line;
 use relay::refusals::WRONG_BLOCK;
-use text::fault::Shape;
-use text::reader::read_line;
 
 pub struct Row {
     pub number: u32,

@@ -4,9 +4,9 @@ ghost use Rattle.rows.specs.SettingsLine.{settingsLineRefusal, settingsL
 use crate::refusal::Refusal;
 use crate::refusal::refuse;
 use crate::refusal::refuse_shape;
+use faults::fault::Shape;
+use faults::reader::read_line;
 use phase::Settings;
-use text::fault::Shape;
-use text::reader::read_line;
 
 pub enum SettingsRead {
     Accepted(Settings),

@@ -24,7 +24,7 @@ use Rattle.steps.specs.declared.progress.Progress.{Progress}
 use Rattle.steps.specs.declared.progress.Noted.{Noted}
 use Rattle.rows.specs.SettingsLine.{settingsLineRefusal, settingsLineAnswer}
 use Rattle.text.specs.Line.{isLf, fieldsIn}
-use Rattle.text.specs.Fault.{countOf, lastOf, digitsIn, sinceCr, faultsFrom, lowestOf, told, shapeOf}
+use Rattle.faults.specs.Fault.{countOf, lastOf, digitsIn, sinceCr, faultsFrom, lowestOf, told, shapeOf}
 use Rattle.steps.specs.Output.{noteOf}
 use Rattle.steps.specs.Progress.{stopped, opened, rowDone, afterTick, wroteTick, stepped, noted, afterRow, wroteRow, ticked, afterBy, wroteBy, afterLine, wroteLine}
 use Rattle.steps.specs.device.Calls.{notedOf}

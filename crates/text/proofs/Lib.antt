@@ -6,13 +6,6 @@ pub mod ValueLaws
 pub mod LackLaws
 pub mod ScanLaws
 pub mod ShapeLaws
-pub mod PassedLaws
-pub mod FaultLaws
-pub mod RightLaws
-pub mod PlaceLaws
-pub mod LineLaws
-pub mod ClosingLaws
-pub mod ReadingLaws
 pub mod DecimalsLaws
 pub mod LinesLaws
 pub mod CutLaws

@@ -11,9 +11,8 @@ use lib.Dec.{leb, eqb, lit<}
 use lib.ListN.{length, getD, drop, length-drop}
 use lib.Seq.{drop-cons, drop-length}
 use borrow.Author.Tests.{leb-true, eqb-true, eqb-false}
-use Rattle.text.specs.Number.{leading, valueOf, digitLimit}
+use Rattle.text.specs.Number.{leading, valueOf}
 use Rattle.text.specs.Line.{cr, comma, isLf}
-use Rattle.text.specs.Reader.{narrow}
 use Rattle.checks.proofs.Cases.{by-cond}
 use Rattle.checks.proofs.Tests.{both-true}
 use Rattle.text.proofs.DigitLaws.{leading-length, value-small}
@@ -85,12 +84,6 @@ numbers-small [] s zero = lit< tt
 numbers-small [] s (suc k) = lit< tt
 numbers-small (w ∷ ws) s zero = value-small w s
 numbers-small (w ∷ ws) s (suc k) = numbers-small ws (drop (length (leading w s) + 1) s) k
-
-pub narrow-at : (ws : List ℕ) (k : ℕ) → narrow ws ≡ true → getD ws k 0 ≤ digitLimit
-narrow-at [] zero h = omega arith
-narrow-at [] (suc k) h = omega arith
-narrow-at (w ∷ ws) zero h = leb-true w digitLimit (both-true (leb w digitLimit) _ h .0)
-narrow-at (w ∷ ws) (suc k) h = narrow-at ws k (both-true (leb w digitLimit) _ h .1)
 
 -- the byte that closes field k
 module _ (ws : List ℕ) (k : ℕ) (h : k < length ws) where

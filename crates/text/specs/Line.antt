@@ -72,3 +72,7 @@ spelled (f ∷ g ∷ gs) = f ++ comma ∷ spelled (g ∷ gs)
 -- that fit.
 abbrev pub written : List (List ℕ) → List ℕ
 written fs = spelled fs ++ crLf
+
+-- as many fields as reader and writer take
+abbrev pub fieldLimit : ℕ
+fieldLimit = 16

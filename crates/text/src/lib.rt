@@ -2,8 +2,6 @@
 pub mod bytes;
 pub mod cutter;
 pub mod decimals;
-pub mod fault;
 pub mod lines;
 pub mod number;
-pub mod reader;
 pub mod words;

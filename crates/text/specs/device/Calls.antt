@@ -12,7 +12,7 @@ use Rattle.text.specs.declared.lines.Cut.the-variants.{Held, Closed, Too
 use Rattle.text.specs.declared.cutter.Cutter.{Cutter}
 use Rattle.text.specs.declared.cutter.PieceCut.{PieceCut}
 use Rattle.text.specs.Number.{leading, digitsFrom}
-use Rattle.text.specs.Reader.{narrow, fieldLimit}
+use Rattle.text.specs.Line.{fieldLimit}
 use Rattle.text.specs.Lines.{closedBy, cutOf}
 use Rattle.text.specs.Cutter.{heldRoom, heldLine}
 
@@ -20,12 +20,6 @@ use Rattle.text.specs.Cutter.{heldRoom, heldLine}
 pub record DigitsFound (s : List ℕ) (at width : ℕ) (answer : Digits) : Type 0 where
   pub digits : answer ≡ digitsFrom 0 0 (leading width (drop at s))
   pub within : at + answer .count ≤ length s
-
--- widths that the reader of lines takes
-pub record Readable (widths : List ℕ) : Type 0 where
-  pub some : 1 ≤ length widths
-  pub few : length widths ≤ fieldLimit
-  pub each : narrow widths ≡ true
 
 -- numbers that the writer of lines takes
 pub record Writable (numbers : List ℕ) : Type 0 where

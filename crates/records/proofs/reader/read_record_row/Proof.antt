@@ -5,7 +5,7 @@ use Prim.Native.Nat.{ℕ, _^_, _<_}
 use native.Mathlib.Omega.{arith}
 use lib.ListN.{length, getD}
 use borrow.Author.Tests.{not-true, not-false}
-use Rattle.text.proofs.LineLaws.{line-room}
+use Rattle.faults.proofs.LineLaws.{line-room}
 use Rattle.records.specs.declared.reader.RecordRead.the-variants.{Refused}
 use Rattle.records.specs.Reader.{recordWidths}
 use Rattle.records.proofs.ReaderLaws.{record-readable, record-told, record-shape, record-number, field-fits, record-wrong-status, record-accepted}
@@ -15,7 +15,7 @@ use Rattle.records.proofs.reader.read_record_row.Tie as tie
 use Rattle.records.proofs.reader.read_record_row.Reads as reads
 use Rattle.records.proofs.reader.read_record_row.Lts as lts
 use Rattle.records.proofs.status.read_status.Reads as status
-use Rattle.text.proofs.reader.read_line.Reads as line
+use Rattle.faults.proofs.reader.read_line.Reads as line
 use Rattle.rows.proofs.refuse.Reads as refuse
 use Rattle.rows.proofs.refuse_shape.Reads as refuse-shape
 

@@ -9,7 +9,7 @@ use lib.ListN.{getD}
 use borrow.Author.Tests.{eqb-true}
 use Rattle.text.specs.Number.{isDigit}
 use Rattle.text.specs.Line.{lf}
-use Rattle.text.specs.declared.fault.Fault.{Fault}
+use Rattle.faults.specs.declared.fault.Fault.{Fault}
 use Rattle.rows.specs.Refusal.{lfForCrLf}
 use borrow.Author.Needs.{needs}
 use Rattle.rows.proofs.refusal.is_lf_for_cr_lf.Statement.{statement}

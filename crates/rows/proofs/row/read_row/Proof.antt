@@ -12,7 +12,7 @@ use Rattle.rows.proofs.row.read_row.Statement.{statement}
 use Rattle.rows.proofs.row.read_row.Tie as tie
 use Rattle.rows.proofs.row.read_row.Lts as lts
 use Rattle.rows.proofs.row.read_row.Reads as reads
-use Rattle.text.proofs.reader.read_line.Reads as line
+use Rattle.faults.proofs.reader.read_line.Reads as line
 use Rattle.rows.proofs.refusal.refuse.Reads as refuse
 use Rattle.rows.proofs.refusal.refuse_shape.Reads as refuse-shape
 

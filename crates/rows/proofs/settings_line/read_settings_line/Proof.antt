@@ -12,7 +12,7 @@ use Rattle.rows.proofs.settings_line.read_settings_line.Statement.{stat
 use Rattle.rows.proofs.settings_line.read_settings_line.Tie as tie
 use Rattle.rows.proofs.settings_line.read_settings_line.Lts as lts
 use Rattle.rows.proofs.settings_line.read_settings_line.Reads as reads
-use Rattle.text.proofs.reader.read_line.Reads as line
+use Rattle.faults.proofs.reader.read_line.Reads as line
 use Rattle.rows.proofs.refusal.refuse.Reads as refuse
 use Rattle.rows.proofs.refusal.refuse_shape.Reads as refuse-shape
 use Rattle.phase.proofs.settings.Settings.check.Reads as check

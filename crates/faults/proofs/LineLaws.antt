@@ -7,16 +7,16 @@ use Prim.Native.Nat.{ℕ, suc, _^_, _≤_, _<_}
 use native.Mathlib.Omega.{arith}
 use lib.ListN.{length, getD, drop, replicate, List·getD-append}
 use lib.Seq.{length-sets}
-use Rattle.text.specs.declared.fault.Shape.{Shape}
-use Rattle.text.specs.declared.fault.Shape.the-variants.{Right, Wrong}
-use Rattle.text.specs.declared.reader.Line.{Line}
-use Rattle.text.specs.Line.{rightShape, numbersOf}
-use Rattle.text.specs.Fault.{shapeOf}
-use Rattle.text.specs.Reader.{fieldLimit, lineBy, lineAnswer}
+use Rattle.faults.specs.declared.fault.Shape.{Shape}
+use Rattle.faults.specs.declared.fault.Shape.the-variants.{Right, Wrong}
+use Rattle.faults.specs.declared.reader.Line.{Line}
+use Rattle.text.specs.Line.{fieldLimit, rightShape, numbersOf}
+use Rattle.faults.specs.Fault.{shapeOf}
+use Rattle.faults.specs.Reader.{lineBy, lineAnswer}
 use Rattle.text.proofs.StoreLaws.{sets-front}
 use Rattle.text.proofs.ScanLaws.{scanned}
 use Rattle.text.proofs.ShapeLaws.{scan-numbers, number-below}
-use Rattle.text.proofs.RightLaws.{faultless-shape}
+use Rattle.faults.proofs.RightLaws.{faultless-shape}
 
 shape-by : (x : Shape) (ns : List ℕ) → lineBy x ns .shape ≡ x
 shape-by Right ns = refl

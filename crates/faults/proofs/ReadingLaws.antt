@@ -3,32 +3,40 @@
 use mathlib.Core.Path.{_≡_, refl, sym, ap, _∙_}
 use mathlib.Core.Bool.{Bool, true, false, cond, false≢true}
 use mathlib.Core.List.{List, [], _∷_, _++_}
-use Prim.Native.Nat.{ℕ, suc, _+_, _-_, _*_, _^_, _≤_, _<_}
+use Prim.Native.Nat.{ℕ, zero, suc, _+_, _-_, _*_, _^_, _≤_, _<_}
 use native.Mathlib.Nat.{lt-of-not-le, add-zero}
 use native.Mathlib.Numerals.{add-one}
 use native.Mathlib.Omega.{arith}
-use lib.Dec.{eqb, lit<}
+use lib.Dec.{leb, eqb, lit<}
 use lib.ListN.{length, getD, take, drop, set, replicate, length-append, length-drop, List·getD-eq-default}
 use lib.Seq.{length-take-le, take-suc, drop-cons, getD-drop}
-use borrow.Author.Tests.{eqb-true, eqb-false}
-use Rattle.text.specs.declared.fault.Fault.{Fault}
-use Rattle.text.specs.declared.fault.Flaw.the-variants.{DigitTooMany, LineEnd}
-use Rattle.text.specs.declared.fault.Shape.{Shape}
-use Rattle.text.specs.declared.fault.Shape.the-variants.{Right, Wrong}
-use Rattle.text.specs.declared.reader.Line.{Line}
-use Rattle.text.specs.declared.reader.Closing.{Closing}
-use Rattle.text.specs.declared.reader.Closing.the-variants.{Next, Last, Flawed}
-use Rattle.text.specs.Number.{isDigit, valueFrom, valueOf}
-use Rattle.text.specs.Line.{comma, lf, valuesOf, numbersOf}
-use Rattle.text.specs.Fault.{isEmpty, begins, beginsDigit, faultsFrom, told, shapeOf}
-use Rattle.text.specs.Reader.{fieldLimit, placed, wrongLine, lineAnswer}
-use Rattle.text.specs.device.Closing.{flawedAt, endingOf, closesNone, closingBy, closingOf, shapeBy}
+use borrow.Author.Tests.{eqb-true, eqb-false, leb-true}
+use Rattle.faults.specs.declared.fault.Fault.{Fault}
+use Rattle.faults.specs.declared.fault.Flaw.the-variants.{DigitTooMany, LineEnd}
+use Rattle.faults.specs.declared.fault.Shape.{Shape}
+use Rattle.faults.specs.declared.fault.Shape.the-variants.{Right, Wrong}
+use Rattle.faults.specs.declared.reader.Line.{Line}
+use Rattle.faults.specs.declared.reader.Closing.{Closing}
+use Rattle.faults.specs.declared.reader.Closing.the-variants.{Next, Last, Flawed}
+use Rattle.text.specs.Number.{digitLimit, isDigit, valueFrom, valueOf}
+use Rattle.text.specs.Line.{fieldLimit, comma, lf, valuesOf, numbersOf}
+use Rattle.faults.specs.Fault.{isEmpty, begins, beginsDigit, faultsFrom, told, shapeOf}
+use Rattle.faults.specs.Reader.{narrow, placed, wrongLine, lineAnswer}
+use Rattle.faults.specs.device.Closing.{flawedAt, endingOf, closesNone, closingBy, closingOf, shapeBy}
 use Rattle.checks.proofs.Cases.{not-both}
-use Rattle.checks.proofs.Tests.{in-range}
+use Rattle.checks.proofs.Tests.{both-true, in-range}
 use Rattle.text.proofs.DigitLaws.{one-more}
 use Rattle.text.proofs.StoreLaws.{sets-append}
-use Rattle.text.proofs.PassedLaws.{Passed, passed-nothing, passed-digit, passed-comma}
-use Rattle.text.proofs.FaultLaws.{digit-goes-on, digit-too-many, field-closes}
+use Rattle.faults.proofs.PassedLaws.{Passed, passed-nothing, passed-digit, passed-comma}
+use Rattle.faults.proofs.FaultLaws.{digit-goes-on, digit-too-many, field-closes}
+
+-- ---- widths
+
+pub narrow-at : (ws : List ℕ) (k : ℕ) → narrow ws ≡ true → getD ws k 0 ≤ digitLimit
+narrow-at [] zero h = omega arith
+narrow-at [] (suc k) h = omega arith
+narrow-at (w ∷ ws) zero h = leb-true w digitLimit (both-true (leb w digitLimit) _ h .0)
+narrow-at (w ∷ ws) (suc k) h = narrow-at ws k (both-true (leb w digitLimit) _ h .1)
 
 -- ---- values
 

@@ -1,4 +1,4 @@
--- `text::reader::closing_at` meets its contract: its tests, in their order.
+-- `faults::reader::closing_at` meets its contract: its tests, in their order.
 -- Assumes nothing.
 use mathlib.Core.Path.{sym, ap, _∙_}
 use Prim.Native.Nat.{ℕ}
@@ -6,10 +6,10 @@ use native.Mathlib.Omega.{arith}
 use lib.Dec.{eqb}
 use lib.ListN.{drop}
 use borrow.Author.Needs.{needs}
 use Rattle.text.specs.Line.{comma}
-use Rattle.text.proofs.ClosingLaws.{begins-by, closes-stray, closes-empty, closes-miscounted, closes-next, closes-ending}
-use Rattle.text.proofs.reader.closing_at.Statement.{statement}
-use Rattle.text.proofs.reader.closing_at.Tie as tie
+use Rattle.faults.proofs.ClosingLaws.{begins-by, closes-stray, closes-empty, closes-miscounted, closes-next, closes-ending}
+use Rattle.faults.proofs.reader.closing_at.Statement.{statement}
+use Rattle.faults.proofs.reader.closing_at.Tie as tie
 
 closes-none-requires : tie.Need-closes-none-requires
 closes-none-requires c κs = search needs

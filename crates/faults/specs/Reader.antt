@@ -5,17 +5,13 @@ use Prim.Native.Nat.{ℕ}
 use lib.Dec.{leb}
 use lib.ListN.{replicate}
 use lib.Seq.{sets}
-use Rattle.text.specs.declared.fault.Fault.{Fault}
-use Rattle.text.specs.declared.fault.Shape.{Shape}
-use Rattle.text.specs.declared.fault.Shape.the-variants.{Right, Wrong}
-use Rattle.text.specs.declared.reader.Line.{Line}
+use Rattle.faults.specs.declared.fault.Fault.{Fault}
+use Rattle.faults.specs.declared.fault.Shape.{Shape}
+use Rattle.faults.specs.declared.fault.Shape.the-variants.{Right, Wrong}
+use Rattle.faults.specs.declared.reader.Line.{Line}
 use Rattle.text.specs.Number.{digitLimit}
-use Rattle.text.specs.Line.{numbersOf}
-use Rattle.text.specs.Fault.{shapeOf}
-
--- as many fields as it takes
-abbrev pub fieldLimit : ℕ
-fieldLimit = 16
+use Rattle.text.specs.Line.{fieldLimit, numbersOf}
+use Rattle.faults.specs.Fault.{shapeOf}
 
 -- the number of each field fits in 64 bits
 abbrev pub narrow : List ℕ → Bool

@@ -1,10 +1,10 @@
--- `text::reader::closes_none` meets its contract.
+-- `faults::reader::closes_none` meets its contract.
 -- Assumes nothing.
 use native.Mathlib.Omega.{arith}
 use borrow.Author.Needs.{needs}
-use Rattle.text.proofs.ClosingLaws.{none-past, none-here}
-use Rattle.text.proofs.reader.closes_none.Statement.{statement}
-use Rattle.text.proofs.reader.closes_none.Tie as tie
+use Rattle.faults.proofs.ClosingLaws.{none-past, none-here}
+use Rattle.faults.proofs.reader.closes_none.Statement.{statement}
+use Rattle.faults.proofs.reader.closes_none.Tie as tie
 
 returns : tie.Need-returns
 returns c = none-past (c .before .args .s .now) (c .before .args .at) (c .if1 .taken)

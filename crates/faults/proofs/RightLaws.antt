@@ -10,22 +10,22 @@ use lib.Dec.{leb, ltb, eqb, lit<}
 use lib.ListN.{length, getD, drop, length-append, drop-of-length-le}
 use lib.Seq.{drop-cons}
 use borrow.Author.Tests.{ne-eqb, eqb-true, eqb-false, le-leb, lt-leb, ltb-true, ltb-false}
-use Rattle.text.specs.declared.fault.Flaw.the-variants.{LineEnd}
-use Rattle.text.specs.declared.fault.Fault.{Fault}
-use Rattle.text.specs.declared.fault.Shape.{Shape}
-use Rattle.text.specs.declared.fault.Shape.the-variants.{Right, Wrong}
-use Rattle.text.specs.declared.reader.Closing.{Closing}
-use Rattle.text.specs.declared.reader.Closing.the-variants.{Last}
+use Rattle.faults.specs.declared.fault.Flaw.the-variants.{LineEnd}
+use Rattle.faults.specs.declared.fault.Fault.{Fault}
+use Rattle.faults.specs.declared.fault.Shape.{Shape}
+use Rattle.faults.specs.declared.fault.Shape.the-variants.{Right, Wrong}
+use Rattle.faults.specs.declared.reader.Closing.{Closing}
+use Rattle.faults.specs.declared.reader.Closing.the-variants.{Last}
 use Rattle.text.specs.Number.{isDigit, leading}
 use Rattle.text.specs.Line.{comma, cr, lf, isLf, rightShape}
-use Rattle.text.specs.Fault.{faultsFrom, told, shapeOf, isRight}
-use Rattle.text.specs.device.Closing.{flawedAt, endingOf, closingBy, shapeBy}
+use Rattle.faults.specs.Fault.{faultsFrom, told, shapeOf, isRight}
+use Rattle.faults.specs.device.Closing.{flawedAt, endingOf, closingBy, shapeBy}
 use Rattle.checks.proofs.Cases.{not-both}
 use Rattle.text.proofs.DigitLaws.{digit-is-not}
 use Rattle.text.proofs.ScanLaws.{fieldCloser, scans, closer-at}
 use Rattle.text.proofs.ShapeLaws.{scan-right}
-use Rattle.text.proofs.PassedLaws.{Passed, passed-nothing, passed-digit, passed-comma}
-use Rattle.text.proofs.FaultLaws.{digit-goes-on, digit-too-many, field-closes}
+use Rattle.faults.proofs.PassedLaws.{Passed, passed-nothing, passed-digit, passed-comma}
+use Rattle.faults.proofs.FaultLaws.{digit-goes-on, digit-too-many, field-closes}
 
 -- the scan of a line whose first field, of width w, has n digits already
 unfoldable scansOn : ℕ → ℕ → List ℕ → List ℕ → Bool

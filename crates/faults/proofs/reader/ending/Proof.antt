@@ -1,11 +1,11 @@
--- `text::reader::ending` meets its contract: the end, the byte after the CR, and what follows.
+-- `faults::reader::ending` meets its contract: the end, the byte after the CR, and what follows.
 -- Assumes nothing.
 use mathlib.Core.Path.{sym, _∙_}
 use native.Mathlib.Omega.{arith}
 use borrow.Author.Needs.{needs}
-use Rattle.text.proofs.ClosingLaws.{ending-past, ending-open, ending-followed, ending-right}
-use Rattle.text.proofs.reader.ending.Statement.{statement}
-use Rattle.text.proofs.reader.ending.Tie as tie
+use Rattle.faults.proofs.ClosingLaws.{ending-past, ending-open, ending-followed, ending-right}
+use Rattle.faults.proofs.reader.ending.Statement.{statement}
+use Rattle.faults.proofs.reader.ending.Tie as tie
 
 flawed-requires : tie.Need-flawed-requires
 flawed-requires c κs = search needs

@@ -12,23 +12,23 @@ use lib.Dec.{ltb, eqb}
 use lib.ListN.{length, getD, drop, length-append}
 use lib.Seq.{drop-cons}
 use borrow.Author.Tests.{ltb-true, ltb-false, eqb-false}
-use Rattle.text.specs.declared.fault.Flaw.the-variants.{LineEnd}
-use Rattle.text.specs.declared.fault.Fault.{Fault}
-use Rattle.text.specs.declared.fault.Shape.{Shape}
-use Rattle.text.specs.declared.fault.Shape.the-variants.{Right, Wrong}
-use Rattle.text.specs.declared.reader.Closing.{Closing}
-use Rattle.text.specs.declared.reader.Closing.the-variants.{Last}
+use Rattle.faults.specs.declared.fault.Flaw.the-variants.{LineEnd}
+use Rattle.faults.specs.declared.fault.Fault.{Fault}
+use Rattle.faults.specs.declared.fault.Shape.{Shape}
+use Rattle.faults.specs.declared.fault.Shape.the-variants.{Right, Wrong}
+use Rattle.faults.specs.declared.reader.Closing.{Closing}
+use Rattle.faults.specs.declared.reader.Closing.the-variants.{Last}
 use Rattle.text.specs.Number.{isDigit}
 use Rattle.text.specs.Line.{comma, lf}
-use Rattle.text.specs.Fault.{isEmpty, begins, beginsDigit, inOrder, faultsHere, faultsFrom, lowestOf, told, shapeOf, isRight}
-use Rattle.text.specs.device.Closing.{flawedAt, endingOf, closesNone, closingBy, shapeBy}
+use Rattle.faults.specs.Fault.{isEmpty, begins, beginsDigit, inOrder, faultsHere, faultsFrom, lowestOf, told, shapeOf, isRight}
+use Rattle.faults.specs.device.Closing.{flawedAt, endingOf, closesNone, closingBy, shapeBy}
 use Rattle.checks.proofs.Cases.{by-cond}
 use Rattle.text.proofs.LackLaws.{Each}
 use Rattle.text.proofs.ScanLaws.{total}
-use Rattle.text.proofs.PassedLaws.{Passed, passed-nothing, passed-digit, passed-comma}
+use Rattle.faults.proofs.PassedLaws.{Passed, passed-nothing, passed-digit, passed-comma}
 use Rattle.text.proofs.ShapeLaws.{shape-most}
-use Rattle.text.proofs.RightLaws.{faultless-shape}
-use Rattle.text.proofs.FaultLaws.{From, At, from-here, here-at, told-here, told-later, digit-goes-on, digit-too-many, field-closes}
+use Rattle.faults.proofs.RightLaws.{faultless-shape}
+use Rattle.faults.proofs.FaultLaws.{From, At, from-here, here-at, told-here, told-later, digit-goes-on, digit-too-many, field-closes}
 
 -- ---- the first of those at the lowest offset
 

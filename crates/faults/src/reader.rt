@@ -1,10 +1,10 @@
 // The reader of a line: fields of digits by commas, closed by CR LF.
 ghost use mathlib.Core.Path.{_≡_};
 ghost use lib.ListN.{getD, drop};
 ghost use Rattle.text.specs.Number.{isDigit};
-ghost use Rattle.text.specs.Reader.{wrongLine, lineAnswer};
-ghost use Rattle.text.specs.device.Calls.{Readable};
-ghost use Rattle.text.specs.device.Closing.{flawedAt, endingOf, closesNone, closingOf};
+ghost use Rattle.faults.specs.Reader.{wrongLine, lineAnswer};
+ghost use Rattle.faults.specs.device.Calls.{Readable};
+ghost use Rattle.faults.specs.device.Closing.{flawedAt, endingOf, closesNone, closingOf};
 use crate::fault::Fault;
 use crate::fault::Flaw;
 use crate::fault::Shape;

@@ -1,10 +1,10 @@
--- `text::reader::byte_at` meets its contract.
+-- `faults::reader::byte_at` meets its contract.
 -- Assumes nothing.
 use mathlib.Core.Path.{sym}
 use lib.ListN.{List·getD-eq-default}
 use borrow.Author.Needs.{needs}
-use Rattle.text.proofs.reader.byte_at.Statement.{statement}
-use Rattle.text.proofs.reader.byte_at.Tie as tie
+use Rattle.faults.proofs.reader.byte_at.Statement.{statement}
+use Rattle.faults.proofs.reader.byte_at.Tie as tie
 
 shared-slice-read-result : tie.Need-shared-slice-read-result
 shared-slice-read-result c = search needs

@@ -8,12 +8,12 @@ use native.Mathlib.Omega.{arith}
 use lib.Dec.{eqb, lit<}
 use lib.ListN.{length, length-append}
 use borrow.Author.Tests.{eq-eqb}
 use Rattle.text.specs.Number.{isDigit, allDigits}
 use Rattle.text.specs.Line.{comma, cr, intoFirst, fieldsIn}
-use Rattle.text.specs.Fault.{countOf, lastOf, begun, digitsIn, sinceCr}
+use Rattle.faults.specs.Fault.{countOf, lastOf, begun, digitsIn, sinceCr}
 use Rattle.checks.proofs.Cases.{by-cond}
 use Rattle.checks.proofs.Tests.{both-true}
 use Rattle.text.proofs.DigitLaws.{digit-is-not}
 
 -- ---- how often a byte stands in a text
 

@@ -1,19 +1,25 @@
--- `text::reader::read_line` meets its contract: a turn of the outer loop is a field, one of the inner a digit, and what is left
+-- `faults::reader::read_line` meets its contract: a turn of the outer loop is a field, one of the inner a digit, and what is left
 -- tells the fault of the whole.
 -- Assumes nothing.
-use mathlib.Core.Path.{sym, ap, _∙_}
-use Prim.Native.Nat.{_-_}
+use mathlib.Core.Path.{_≡_, sym, ap, _∙_}
+use mathlib.Core.Bool.{true}
+use Prim.Native.Nat.{_-_, _<_}
 use native.Mathlib.Omega.{arith}
 use lib.ListN.{length, getD}
 use borrow.Author.Needs.{needs}
 use borrow.Author.Tests.{not-true, not-false}
 use Rattle.text.specs.Number.{isDigit}
 use Rattle.checks.proofs.Tests.{in-range}
 use Rattle.text.proofs.DigitLaws.{nine-digits}
-use Rattle.text.proofs.ScanLaws.{narrow-at}
-use Rattle.text.proofs.ReadingLaws.{FieldRead, read-first, read-digit, read-too-many, read-flawed, read-last, read-next}
-use Rattle.text.proofs.reader.read_line.Statement.{statement}
-use Rattle.text.proofs.reader.read_line.Tie as tie
+use Rattle.faults.proofs.ReadingLaws.{narrow-at, FieldRead, read-first, read-digit, read-too-many, read-flawed, read-last, read-next}
+use Rattle.faults.proofs.reader.read_line.Statement.{statement}
+use Rattle.faults.proofs.reader.read_line.Tie as tie
+use Rattle.faults.proofs.reader.read_line.Lts as lts
+use Rattle.faults.proofs.reader.read_line.Reads as reads
+use Rattle.faults.proofs.reader.byte_at.Reads as byte
+use Rattle.faults.proofs.reader.is_digit.Reads as digit
+use Rattle.faults.proofs.reader.wrong_line.Reads as wrong
+use Rattle.faults.proofs.reader.closing_at.Reads as closing
 
 abbrev Inv-loop : tie.InvT-loop
 Inv-loop s widths numbers at₀ k width field digits₀ value₀ at digits value = FieldRead widths s at k digits value numbers
@@ -53,46 +59,36 @@ is-digit-requires c κs = search needs
 wrong-line-requires : tie.Need-wrong-line-requires Inv-loop μ-loop Inv-fields μ-fields
 wrong-line-requires c κs = search needs
 
+-- in the inner loop, past its two tests: the byte is a digit
+digit-here : (c : lts.Else2 (byte.Asked, byte.Learnt, digit.Asked, digit.Learnt, wrong.Asked, wrong.Learnt, closing.Asked, closing.Learnt) reads.Pre reads.Post Inv-loop μ-loop Inv-fields μ-fields)
+    → isDigit (getD (c .before .before .before .before .before .before .before .before .before .args .s .now) (c .before .before .before .before .loop .at) 0) ≡ true
+digit-here c =
+    let d = c .before .before .is-digit in
+    sym (ap isDigit (c .before .before .before .byte-at .ensures)) ∙ sym (d .ensures) ∙ not-false (d .result) (c .before .if1 .left)
+
+-- and one more fits
+room-here : (c : lts.Else2 (byte.Asked, byte.Learnt, digit.Asked, digit.Learnt, wrong.Asked, wrong.Learnt, closing.Asked, closing.Learnt) reads.Pre reads.Post Inv-loop μ-loop Inv-fields μ-fields) → c .before .before .before .before .loop .digits < 10
+room-here c =
+    let narrow = narrow-at (c .before .before .before .before .before .before .before .before .before .args .widths .now) (c .before .before .before .before .before .before .fields .k) (c .before .before .before .before .before .before .before .before .before .pre .each) in
+    omega (arith, narrow, c .before .before .before .before .loop .inv .fits, c .if2 .left)
+
+value-here : (c : lts.Else2 (byte.Asked, byte.Learnt, digit.Asked, digit.Learnt, wrong.Asked, wrong.Learnt, closing.Asked, closing.Learnt) reads.Pre reads.Post Inv-loop μ-loop Inv-fields μ-fields) → c .before .before .before .before .loop .value < 1000000000
+value-here c = let l = c .before .before .before .before .loop in nine-digits (l .value) (l .digits) (l .inv .small) (room-here c)
+
 mul-value : tie.Need-mul-value Inv-loop μ-loop Inv-fields μ-fields
-mul-value c =
-    let a = c .before .before .before .before .before .before .before .before .before .args in
-    let f = c .before .before .before .before .before .before .fields in
-    let l = c .before .before .before .before .loop in
-    let narrow = narrow-at (a .widths .now) (f .k) (c .before .before .before .before .before .before .before .before .before .pre .each) in
-    let nine = nine-digits (l .value) (l .digits) (l .inv .small) (omega (arith, narrow, l .inv .fits, c .if2 .left)) in
-    omega (arith, nine)
+mul-value c = omega (arith, value-here c)
 
 sub-value : tie.Need-sub-value Inv-loop μ-loop Inv-fields μ-fields
-sub-value c =
-    let a = c .before .before .before .before .before .before .before .before .before .args in
-    let f = c .before .before .before .before .before .before .fields in
-    let l = c .before .before .before .before .loop in
-    let b = c .before .before .before .byte-at in
-    let d = c .before .before .is-digit in
-    let digit = sym (ap isDigit (b .ensures)) ∙ sym (d .ensures) ∙ not-false (d .result) (c .before .if1 .left) in
-    omega (arith, b .ensures, in-range 48 57 (getD (a .s .now) (l .at) 0) digit .0)
+sub-value c = omega (arith, c .before .before .before .byte-at .ensures, in-range 48 57 (getD (c .before .before .before .before .before .before .before .before .before .args .s .now) (c .before .before .before .before .loop .at) 0) (digit-here c) .0)
 
 cast-value : tie.Need-cast-value Inv-loop μ-loop Inv-fields μ-fields
 cast-value c = search needs
 
 add-value : tie.Need-add-value Inv-loop μ-loop Inv-fields μ-fields
-add-value c =
-    let a = c .before .before .before .before .before .before .before .before .before .args in
-    let f = c .before .before .before .before .before .before .fields in
-    let l = c .before .before .before .before .loop in
-    let b = c .before .before .before .byte-at in
-    let d = c .before .before .is-digit in
-    let digit = sym (ap isDigit (b .ensures)) ∙ sym (d .ensures) ∙ not-false (d .result) (c .before .if1 .left) in
-    let narrow = narrow-at (a .widths .now) (f .k) (c .before .before .before .before .before .before .before .before .before .pre .each) in
-    let nine = nine-digits (l .value) (l .digits) (l .inv .small) (omega (arith, narrow, l .inv .fits, c .if2 .left)) in
-    omega (arith, nine, b .ensures, in-range 48 57 (getD (a .s .now) (l .at) 0) digit .1)
+add-value c = omega (arith, value-here c, c .before .before .before .byte-at .ensures, in-range 48 57 (getD (c .before .before .before .before .before .before .before .before .before .args .s .now) (c .before .before .before .before .loop .at) 0) (digit-here c) .1)
 
 add-digits : tie.Need-add-digits Inv-loop μ-loop Inv-fields μ-fields
-add-digits c =
-    let a = c .before .before .before .before .before .before .before .before .before .args in
-    let f = c .before .before .before .before .before .before .fields in
-    let l = c .before .before .before .before .loop in
-    omega (arith, narrow-at (a .widths .now) (f .k) (c .before .before .before .before .before .before .before .before .before .pre .each), l .inv .fits)
+add-digits c = omega (arith, room-here c)
 
 add-at : tie.Need-add-at Inv-loop μ-loop Inv-fields μ-fields
 add-at c = search needs
@@ -105,10 +101,7 @@ loop-again c =
     let a = c .before .before .before .before .before .before .before .before .before .args in
     let f = c .before .before .before .before .before .before .fields in
     let l = c .before .before .before .before .loop in
-    let b = c .before .before .before .byte-at in
-    let d = c .before .before .is-digit in
-    let digit = sym (ap isDigit (b .ensures)) ∙ sym (d .ensures) ∙ not-false (d .result) (c .before .if1 .left) in
-    rw (b .ensures) (read-digit (a .widths .now) (a .s .now) (l .at) (f .k) (l .digits) (l .value) (f .numbers) (l .inv) digit (c .if2 .left))
+    rw (c .before .before .before .byte-at .ensures) (read-digit (a .widths .now) (a .s .now) (l .at) (f .k) (l .digits) (l .value) (f .numbers) (l .inv) (digit-here c) (c .if2 .left))
 
 mul-numbers : tie.Need-mul-numbers Inv-loop μ-loop Inv-fields μ-fields
 mul-numbers c = search needs

@@ -9,20 +9,20 @@ use lib.Dec.{leb, ltb, eqb, lit<}
 use lib.ListN.{length, getD, drop, length-append}
 use lib.Seq.{append-snoc}
 use borrow.Author.Tests.{eq-eqb, ne-eqb, eqb-true, eqb-false, le-leb, lt-leb, le-ltb, lt-ltb}
-use Rattle.text.specs.declared.fault.Flaw.{Flaw}
-use Rattle.text.specs.declared.fault.Flaw.the-variants.{NoDigit, DigitTooMany, StrayByte, FieldCount, LineEnd}
-use Rattle.text.specs.declared.fault.Fault.{Fault}
-use Rattle.text.specs.declared.fault.Shape.{Shape}
-use Rattle.text.specs.declared.fault.Shape.the-variants.{Right, Wrong}
-use Rattle.text.specs.declared.reader.Closing.the-variants.{Last}
+use Rattle.faults.specs.declared.fault.Flaw.{Flaw}
+use Rattle.faults.specs.declared.fault.Flaw.the-variants.{NoDigit, DigitTooMany, StrayByte, FieldCount, LineEnd}
+use Rattle.faults.specs.declared.fault.Fault.{Fault}
+use Rattle.faults.specs.declared.fault.Shape.{Shape}
+use Rattle.faults.specs.declared.fault.Shape.the-variants.{Right, Wrong}
+use Rattle.faults.specs.declared.reader.Closing.the-variants.{Last}
 use Rattle.text.specs.Number.{isDigit}
 use Rattle.text.specs.Line.{comma, cr, lf, isLf}
-use Rattle.text.specs.Fault.{isEmpty, begins, beginsDigit, beginsStray, countOf, fieldAt, noCr, sinceCr, rightAfterCrLf, stands, inOrder, faultAt, faultsOf, faultsHere, faultsFrom, lowestOf, told}
-use Rattle.text.specs.device.Closing.{flawedAt, endingOf, closesNone, closingBy, shapeBy}
+use Rattle.faults.specs.Fault.{isEmpty, begins, beginsDigit, beginsStray, countOf, fieldAt, noCr, sinceCr, rightAfterCrLf, stands, inOrder, faultAt, faultsOf, faultsHere, faultsFrom, lowestOf, told}
+use Rattle.faults.specs.device.Closing.{flawedAt, endingOf, closesNone, closingBy, shapeBy}
 use Rattle.checks.proofs.Cases.{by-cond}
 use Rattle.text.proofs.LackLaws.{Each}
 use Rattle.text.proofs.DigitLaws.{digit-is-not}
-use Rattle.text.proofs.PassedLaws.{Passed, passed-commas, passed-begun, passed-digits, count-other, count-same, since-none, since-cr}
+use Rattle.faults.proofs.PassedLaws.{Passed, passed-commas, passed-begun, passed-digits, count-other, count-same, since-none, since-cr}
 
 -- ---- lists of faults
 

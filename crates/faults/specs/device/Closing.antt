@@ -4,14 +4,14 @@ use mathlib.Core.List.{List, [], _∷_}
 use Prim.Native.Nat.{ℕ, _+_}
 use lib.Dec.{eqb}
 use lib.ListN.{drop}
-use Rattle.text.specs.declared.fault.Flaw.{Flaw}
-use Rattle.text.specs.declared.fault.Flaw.the-variants.{NoDigit, StrayByte, FieldCount, LineEnd}
-use Rattle.text.specs.declared.fault.Shape.{Shape}
-use Rattle.text.specs.declared.fault.Shape.the-variants.{Right, Wrong}
-use Rattle.text.specs.declared.reader.Closing.{Closing}
-use Rattle.text.specs.declared.reader.Closing.the-variants.{Next, Last, Flawed}
+use Rattle.faults.specs.declared.fault.Flaw.{Flaw}
+use Rattle.faults.specs.declared.fault.Flaw.the-variants.{NoDigit, StrayByte, FieldCount, LineEnd}
+use Rattle.faults.specs.declared.fault.Shape.{Shape}
+use Rattle.faults.specs.declared.fault.Shape.the-variants.{Right, Wrong}
+use Rattle.faults.specs.declared.reader.Closing.{Closing}
+use Rattle.faults.specs.declared.reader.Closing.the-variants.{Next, Last, Flawed}
 use Rattle.text.specs.Line.{comma, cr, lf}
-use Rattle.text.specs.Fault.{begins, isEmpty}
+use Rattle.faults.specs.Fault.{begins, isEmpty}
 
 abbrev pub flawedAt : Flaw → ℕ → ℕ → Closing
 flawedAt flaw offset field = Flawed (record { flaw = flaw; offset = offset; field = field })

@@ -10,12 +10,12 @@ use lib.Dec.{leb, eqb}
 use lib.ListN.{length, getD, drop, drop-of-length-le, List·getD-eq-default}
 use lib.Seq.{drop-cons, drop-drop}
 use borrow.Author.Tests.{eq-eqb, ne-eqb, le-leb, lt-leb, leb-true, leb-false}
-use Rattle.text.specs.declared.fault.Flaw.the-variants.{NoDigit, StrayByte, FieldCount, LineEnd}
-use Rattle.text.specs.declared.reader.Closing.{Closing}
-use Rattle.text.specs.declared.reader.Closing.the-variants.{Next, Last}
+use Rattle.faults.specs.declared.fault.Flaw.the-variants.{NoDigit, StrayByte, FieldCount, LineEnd}
+use Rattle.faults.specs.declared.reader.Closing.{Closing}
+use Rattle.faults.specs.declared.reader.Closing.the-variants.{Next, Last}
 use Rattle.text.specs.Line.{comma, cr, lf}
-use Rattle.text.specs.Fault.{begins, isEmpty}
-use Rattle.text.specs.device.Closing.{flawedAt, endingOf, closesNone, closingBy, closingOf}
+use Rattle.faults.specs.Fault.{begins, isEmpty}
+use Rattle.faults.specs.device.Closing.{flawedAt, endingOf, closesNone, closingBy, closingOf}
 
 -- ---- the byte at a place
 

@@ -1,0 +1,7 @@
+pub mod PassedLaws
+pub mod FaultLaws
+pub mod RightLaws
+pub mod PlaceLaws
+pub mod LineLaws
+pub mod ClosingLaws
+pub mod ReadingLaws
