@@ -1,7 +1,7 @@
 -- The fault that is told, offset by offset.
 -- Assumes nothing.
 use mathlib.Core.Path.{_≡_, refl, sym, ap, subst, _∙_}
-use mathlib.Core.Bool.{Bool, true, false, cond, not, _&&_, _||_, or-false, and-false}
+use mathlib.Core.Bool.{Bool, true, false, cond, not, _&&_, _||_, or-false, and-false, false≢true}
 use mathlib.Core.List.{List, [], _∷_, _++_}
 use Prim.Native.Nat.{ℕ, suc, _+_, _≤_, _<_}
 use native.Mathlib.Omega.{arith}
@@ -17,12 +17,12 @@ use Rattle.faults.specs.declared.fault.Shape.the-variants.{Right, Wrong}
 use Rattle.faults.specs.declared.reader.Closing.the-variants.{Last}
 use Rattle.text.specs.Number.{isDigit}
 use Rattle.text.specs.Line.{comma, cr, lf, isLf}
-use Rattle.faults.specs.Fault.{isEmpty, begins, beginsDigit, beginsStray, countOf, fieldAt, noCr, sinceCr, rightAfterCrLf, stands, inOrder, faultAt, faultsOf, faultsHere, faultsFrom, lowestOf, told}
+use Rattle.faults.specs.Fault.{isEmpty, begins, beginsDigit, beginsStray, countOf, fieldAt, noCr, sinceCr, rightAfterCrLf, stands, inOrder, faultAt, faultsOf, faultsHere, faultsFrom, lowestOf, told, shapeOf}
 use Rattle.faults.specs.device.Closing.{flawedAt, endingOf, closesNone, closingBy, shapeBy}
 use Rattle.checks.proofs.Cases.{by-cond}
 use Rattle.text.proofs.LackLaws.{Each}
 use Rattle.text.proofs.DigitLaws.{digit-is-not}
-use Rattle.faults.proofs.PassedLaws.{Passed, passed-commas, passed-begun, passed-digits, count-other, count-same, since-none, since-cr}
+use Rattle.faults.proofs.PassedLaws.{Passed, passed-nothing, passed-commas, passed-begun, passed-digits, count-other, count-same, since-none, since-cr}
 
 -- ---- lists of faults
 
@@ -340,3 +340,9 @@ module _ (ws t : List ℕ) (done : List (List ℕ)) (current : List ℕ) (p : Pa
     -- WHERE NO DIGIT STANDS, what the reader finds there is what the faults tell
     pub field-closes : (u : List ℕ) → beginsDigit u ≡ false → Closes (eqb (length current) 0) (eqb field (length ws)) u
     field-closes = closes-by (eqb (length current) 0) (eqb field (length ws)) (empty-by current) refl
+
+-- ---- a line of no bytes
+
+pub empty-line : (ws : List ℕ) → 1 ≤ length ws → shapeOf ws [] ≡ Wrong (record { flaw = NoDigit; offset = 0; field = 1 })
+unfolding shapeOf closingBy
+empty-line ws h = field-closes ws [] [] [] passed-nothing h [] refl Right (λ e. absurd (false≢true e))

@@ -22,11 +22,15 @@ narrow (w ∷ ws) = leb w digitLimit && narrow ws
 abbrev pub placed : List ℕ → List ℕ
 placed ns = sets (replicate fieldLimit 0) 0 ns
 
+-- with these in their places
+abbrev pub rightLine : List ℕ → Line
+rightLine numbers = record { shape = Right; numbers = numbers }
+
 abbrev pub wrongLine : Fault → Line
 wrongLine f = record { shape = Wrong f; numbers = placed [] }
 
 abbrev pub lineBy : Shape → List ℕ → Line
-lineBy Right ns = record { shape = Right; numbers = placed ns }
+lineBy Right ns = rightLine (placed ns)
 lineBy (Wrong f) ns = wrongLine f
 
 abbrev pub lineAnswer : List ℕ → List ℕ → Line

@@ -2,9 +2,10 @@
 ghost use mathlib.Core.Path.{_≡_};
 ghost use lib.ListN.{getD, drop};
 ghost use Rattle.text.specs.Number.{isDigit};
-ghost use Rattle.faults.specs.Reader.{wrongLine, lineAnswer};
+ghost use Rattle.faults.specs.Reader.{rightLine, wrongLine, lineAnswer};
 ghost use Rattle.faults.specs.device.Calls.{Readable};
-ghost use Rattle.faults.specs.device.Closing.{flawedAt, endingOf, closesNone, closingOf};
+ghost use Rattle.faults.specs.declared.fault.Flaw.the-variants.{DigitTooMany};
+ghost use Rattle.faults.specs.device.Closing.{faultOf, flawedAt, endingOf, closesNone, closingOf};
 use crate::fault::Fault;
 use crate::fault::Flaw;
 use crate::fault::Shape;
@@ -23,6 +24,15 @@ enum Closing {
     Next,
     Last,
     Flawed(Fault),
+}
+
+fn right_line(numbers: [u64; FIELD_LIMIT]) -> Line
+    ensures { λ r. ⌜ r ≡ rightLine numbers ⌝ }
+{
+    Line {
+        shape: Shape::Right,
+        numbers,
+    }
 }
 
 fn wrong_line(fault: Fault) -> Line
@@ -106,6 +116,16 @@ fn closing_at(s: &[u8], at: usize, digits: usize, field: usize, last: bool) -> C
     ending(s, at, field)
 }
 
+fn digit_too_many(offset: usize, field: usize) -> Fault
+    ensures { λ r. ⌜ r ≡ faultOf DigitTooMany offset field ⌝ }
+{
+    Fault {
+        flaw: Flaw::DigitTooMany,
+        offset,
+        field,
+    }
+}
+
 // A line that is due one field for each width, in one scan: field by field, and in each digit by digit, to the first fault.
 pub fn read_line(s: &[u8], widths: &[usize]) -> Line
     requires { ⌜ Readable (now widths) ⌝ }
@@ -125,11 +145,7 @@ pub fn read_line(s: &[u8], widths: &[usize]) -> Line
                 break;
             }
             if digits == width {
-                break 'fields wrong_line(Fault {
-                    flaw: Flaw::DigitTooMany,
-                    offset: at,
-                    field,
-                });
+                break 'fields wrong_line(digit_too_many(at, field));
             }
             value = value * 10 + (b - b'0') as u64;
             digits += 1;
@@ -143,10 +159,7 @@ pub fn read_line(s: &[u8], widths: &[usize]) -> Line
                 at += 1;
             }
             Closing::Last => {
-                break 'fields Line {
-                    shape: Shape::Right,
-                    numbers,
-                };
+                break 'fields right_line(numbers);
             }
             Closing::Flawed(fault) => {
                 break 'fields wrong_line(fault);

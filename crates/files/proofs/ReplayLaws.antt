@@ -28,9 +28,8 @@ use Rattle.rows.specs.Refusals.{noDigit}
 use Rattle.rows.specs.Refusal.{misshapen}
 use Rattle.steps.specs.Progress.{freshProgress, stopped, opened, afterBy, afterLine, wroteBy, stageRefusal}
 use Rattle.files.specs.Replay.{Told, endAlone, byLines, toldOf, notesAndEnd, replayOf, recordOf}
-use Rattle.rows.proofs.SettingsLineLaws.{settings-by, settings-refused, settings-answer, settings-line-passed}
+use Rattle.rows.proofs.SettingsLineLaws.{settings-empty, settings-by, settings-refused, settings-answer, settings-line-passed}
 use Rattle.rows.proofs.AnswerNumbers.{flaw-refused}
-use Rattle.steps.proofs.ProgressLaws.{empty-line}
 use Rattle.files.proofs.RefusedLaws.{open-misshapen, stopped-ends}
 use Rattle.text.proofs.CutLaws.{lines-nil, last-nothing, last-line}
 use Rattle.text.proofs.LinesLaws.{hasCrLf, has-ends, open-input, line-first}
@@ -71,7 +70,7 @@ module _ (form : Form) (c : Configuration) where
   pub told-of-nothing : toldOf form c [] ≡ onlyEnd noDigit
   unfolding toldOf byLines stageRefusal
   told-of-nothing =
-      rw (lines-nil CrLf [], last-nothing, empty-line)
+      rw (lines-nil CrLf [], last-nothing, settings-empty)
       (ap (λ (x : Refusal). onlyEnd (x .number)) (kept-refusal c 0 (record { number = noDigit; offset = 0; field = 1; hint = None }) (λ e. omega arith)))
 
   -- the first line is the settings line

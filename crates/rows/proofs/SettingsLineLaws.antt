@@ -2,12 +2,13 @@
 -- Assumes nothing.
 use mathlib.Core.Path.{_≡_, refl, sym, ap, _∙_}
 use mathlib.Core.Bool.{true}
-use mathlib.Core.List.{List}
+use mathlib.Core.List.{List, []}
 use Prim.Native.Nat.{ℕ, _^_, _<_}
 use native.Mathlib.Omega.{arith}
 use lib.ListN.{length, getD}
 use Rattle.phase.specs.declared.settings.Settings.{Settings}
 use Rattle.phase.specs.Settings.{settingsRefusal}
+use Rattle.faults.specs.declared.fault.Flaw.the-variants.{NoDigit}
 use Rattle.faults.specs.declared.fault.Fault.{Fault}
 use Rattle.faults.specs.declared.fault.Shape.{Shape}
 use Rattle.faults.specs.declared.fault.Shape.the-variants.{Right, Wrong}
@@ -18,12 +19,15 @@ use Rattle.text.specs.Line.{rightShape, numbersOf}
 use Rattle.faults.specs.Fault.{shapeOf}
 use Rattle.faults.specs.Reader.{lineAnswer}
 use Rattle.faults.specs.device.Calls.{Readable}
+use Rattle.rows.specs.declared.refusal.Hint.the-variants.{None}
 use Rattle.rows.specs.declared.refusal.Refusal.{Refusal}
+use Rattle.rows.specs.Refusals.{noDigit}
 use Rattle.rows.specs.Refusal.{misshapen, withoutPlace, accepted, lineRefusal}
 use Rattle.rows.specs.SettingsLine.{settingsWidths, settingsIn, settingsLineRefusal, settingsLineAnswer, settingsLineNumbers}
 use Rattle.rows.proofs.AnswerNumbers.{flaw-refused, no-refusal, answer-numbers, answer-refused}
 use Rattle.rows.proofs.NumberedLaws.{line-passed}
 use Rattle.faults.proofs.LineLaws.{line-shape, line-number}
+use Rattle.faults.proofs.FaultLaws.{empty-line}
 use Rattle.faults.proofs.RightLaws.{faultless-shape}
 
 pub settings-readable : Readable settingsWidths
@@ -36,6 +40,10 @@ settings-by s x e = ap (λ (y : Shape). lineRefusal (length settingsWidths) y s 
 settings-none : (s : List ℕ) → settingsLineRefusal s .number ≡ 0 → settingsLineRefusal s ≡ accepted
 unfolding settingsLineRefusal
 settings-none s e = no-refusal (length settingsWidths) (shapeOf settingsWidths s) s (settingsRefusal (settingsIn (numbersOf s))) e
+
+-- a line of no bytes: "an empty input is one with no digit", at its end, in the first field
+pub settings-empty : settingsLineRefusal [] ≡ record { number = noDigit; offset = 0; field = 1; hint = None }
+settings-empty = settings-by [] (Wrong (record { flaw = NoDigit; offset = 0; field = 1 })) (empty-line settingsWidths (omega arith))
 
 -- both clauses of the reader's contract
 pub settings-told : (r : SettingsRead) (s : List ℕ) → r ≡ settingsLineAnswer s → (r ≡ settingsLineAnswer s) × (settingsLineNumbers r ≡ settingsLineRefusal s)

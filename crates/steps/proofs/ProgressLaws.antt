@@ -2,7 +2,7 @@
 -- Assumes nothing.
 use mathlib.Core.Path.{_≡_, refl, sym, ap, _∙_}
 use mathlib.Core.Bool.{Bool, true, false}
-use mathlib.Core.List.{List, []}
+use mathlib.Core.List.{List}
 use Prim.Native.Nat.{ℕ, _+_, min}
 use native.Mathlib.Omega.{arith}
 use lib.Dec.{leb}
@@ -12,8 +12,6 @@ use borrow.Author.Tests.{eq-eqb, ne-eqb, leb-true, leb-false}
 use Rattle.relay.specs.declared.tick.RelayTicked.{RelayTicked}
 use Rattle.rows.specs.declared.row.Row.{Row}
 use Rattle.rows.specs.declared.refusal.Refusal.{Refusal}
-use Rattle.rows.specs.declared.refusal.Hint.the-variants.{None}
-use Rattle.rows.specs.Refusals.{noDigit}
 use Rattle.rows.specs.Refusal.{withoutPlace}
 use Rattle.rows.specs.declared.row.RowRead.{RowRead}
 use Rattle.rows.specs.declared.row.RowRead.the-variants.{Accepted, Refused}
@@ -22,9 +20,7 @@ use Rattle.steps.specs.declared.progress.Stage.{Stage}
 use Rattle.steps.specs.declared.progress.Stage.the-variants.{Opening, Running, Stopped}
 use Rattle.steps.specs.declared.progress.Progress.{Progress}
 use Rattle.steps.specs.declared.progress.Noted.{Noted}
-use Rattle.rows.specs.SettingsLine.{settingsLineRefusal, settingsLineAnswer}
-use Rattle.text.specs.Line.{isLf, fieldsIn}
-use Rattle.faults.specs.Fault.{countOf, lastOf, digitsIn, sinceCr, faultsFrom, lowestOf, told, shapeOf}
+use Rattle.rows.specs.SettingsLine.{settingsLineAnswer}
 use Rattle.steps.specs.Output.{noteOf}
 use Rattle.steps.specs.Progress.{stopped, opened, rowDone, afterTick, wroteTick, stepped, noted, afterRow, wroteRow, ticked, afterBy, wroteBy, afterLine, wroteLine}
 use Rattle.steps.specs.device.Calls.{notedOf}
@@ -129,10 +125,3 @@ take-least n s = by-length (leb n (length s)) refl
     by-length false e =
         let z : min n (length s) ≡ length s = omega (arith, leb-false n (length s) e) in
         rw (z, take-length s) (sym (take-all n s (omega (arith, leb-false n (length s) e))))
-
--- ---- no line at all
-
--- an empty line: "an empty input is one with no digit", at its end, in the first field
-pub empty-line : settingsLineRefusal [] ≡ record { number = noDigit; offset = 0; field = 1; hint = None }
-unfolding settingsLineRefusal shapeOf told faultsFrom lowestOf countOf lastOf fieldsIn digitsIn sinceCr isLf
-empty-line = refl

@@ -6,6 +6,7 @@ use lib.Dec.{eqb}
 use lib.ListN.{drop}
 use Rattle.faults.specs.declared.fault.Flaw.{Flaw}
 use Rattle.faults.specs.declared.fault.Flaw.the-variants.{NoDigit, StrayByte, FieldCount, LineEnd}
+use Rattle.faults.specs.declared.fault.Fault.{Fault}
 use Rattle.faults.specs.declared.fault.Shape.{Shape}
 use Rattle.faults.specs.declared.fault.Shape.the-variants.{Right, Wrong}
 use Rattle.faults.specs.declared.reader.Closing.{Closing}
@@ -13,8 +14,11 @@ use Rattle.faults.specs.declared.reader.Closing.the-variants.{Next, Last
 use Rattle.text.specs.Line.{comma, cr, lf}
 use Rattle.faults.specs.Fault.{begins, isEmpty}
 
+abbrev pub faultOf : Flaw → ℕ → ℕ → Fault
+faultOf flaw offset field = record { flaw = flaw; offset = offset; field = field }
+
 abbrev pub flawedAt : Flaw → ℕ → ℕ → Closing
-flawedAt flaw offset field = Flawed (record { flaw = flaw; offset = offset; field = field })
+flawedAt flaw offset field = Flawed (faultOf flaw offset field)
 
 -- the end, or a byte that is taken for the CR
 abbrev pub endingOf : ℕ → ℕ → List ℕ → Closing

@@ -9,6 +9,7 @@ use lib.ListN.{length, getD}
 use borrow.Author.Needs.{needs}
 use borrow.Author.Tests.{not-true, not-false}
 use Rattle.text.specs.Number.{isDigit}
+use Rattle.faults.specs.Reader.{wrongLine}
 use Rattle.checks.proofs.Tests.{in-range}
 use Rattle.text.proofs.DigitLaws.{nine-digits}
 use Rattle.faults.proofs.ReadingLaws.{narrow-at, FieldRead, read-first, read-digit, read-too-many, read-flawed, read-last, read-next}
@@ -18,7 +19,9 @@ use Rattle.faults.proofs.reader.read_line.Lts as lts
 use Rattle.faults.proofs.reader.read_line.Reads as reads
 use Rattle.faults.proofs.reader.byte_at.Reads as byte
 use Rattle.faults.proofs.reader.is_digit.Reads as digit
+use Rattle.faults.proofs.reader.digit_too_many.Reads as too-many
 use Rattle.faults.proofs.reader.wrong_line.Reads as wrong
+use Rattle.faults.proofs.reader.right_line.Reads as right
 use Rattle.faults.proofs.reader.closing_at.Reads as closing
 
 abbrev Inv-loop : tie.InvT-loop
@@ -56,23 +59,26 @@ byte-at-requires c κs = search needs
 is-digit-requires : tie.Need-is-digit-requires Inv-loop μ-loop Inv-fields μ-fields
 is-digit-requires c κs = search needs
 
+digit-too-many-requires : tie.Need-digit-too-many-requires Inv-loop μ-loop Inv-fields μ-fields
+digit-too-many-requires c κs = search needs
+
 wrong-line-requires : tie.Need-wrong-line-requires Inv-loop μ-loop Inv-fields μ-fields
 wrong-line-requires c κs = search needs
 
 -- in the inner loop, past its two tests: the byte is a digit
-digit-here : (c : lts.Else2 (byte.Asked, byte.Learnt, digit.Asked, digit.Learnt, wrong.Asked, wrong.Learnt, closing.Asked, closing.Learnt) reads.Pre reads.Post Inv-loop μ-loop Inv-fields μ-fields)
+digit-here : (c : lts.Else2 (byte.Asked, byte.Learnt, digit.Asked, digit.Learnt, too-many.Asked, too-many.Learnt, wrong.Asked, wrong.Learnt, closing.Asked, closing.Learnt, right.Asked, right.Learnt) reads.Pre reads.Post Inv-loop μ-loop Inv-fields μ-fields)
     → isDigit (getD (c .before .before .before .before .before .before .before .before .before .args .s .now) (c .before .before .before .before .loop .at) 0) ≡ true
 digit-here c =
     let d = c .before .before .is-digit in
     sym (ap isDigit (c .before .before .before .byte-at .ensures)) ∙ sym (d .ensures) ∙ not-false (d .result) (c .before .if1 .left)
 
 -- and one more fits
-room-here : (c : lts.Else2 (byte.Asked, byte.Learnt, digit.Asked, digit.Learnt, wrong.Asked, wrong.Learnt, closing.Asked, closing.Learnt) reads.Pre reads.Post Inv-loop μ-loop Inv-fields μ-fields) → c .before .before .before .before .loop .digits < 10
+room-here : (c : lts.Else2 (byte.Asked, byte.Learnt, digit.Asked, digit.Learnt, too-many.Asked, too-many.Learnt, wrong.Asked, wrong.Learnt, closing.Asked, closing.Learnt, right.Asked, right.Learnt) reads.Pre reads.Post Inv-loop μ-loop Inv-fields μ-fields) → c .before .before .before .before .loop .digits < 10
 room-here c =
     let narrow = narrow-at (c .before .before .before .before .before .before .before .before .before .args .widths .now) (c .before .before .before .before .before .before .fields .k) (c .before .before .before .before .before .before .before .before .before .pre .each) in
     omega (arith, narrow, c .before .before .before .before .loop .inv .fits, c .if2 .left)
 
-value-here : (c : lts.Else2 (byte.Asked, byte.Learnt, digit.Asked, digit.Learnt, wrong.Asked, wrong.Learnt, closing.Asked, closing.Learnt) reads.Pre reads.Post Inv-loop μ-loop Inv-fields μ-fields) → c .before .before .before .before .loop .value < 1000000000
+value-here : (c : lts.Else2 (byte.Asked, byte.Learnt, digit.Asked, digit.Learnt, too-many.Asked, too-many.Learnt, wrong.Asked, wrong.Learnt, closing.Asked, closing.Learnt, right.Asked, right.Learnt) reads.Pre reads.Post Inv-loop μ-loop Inv-fields μ-fields) → c .before .before .before .before .loop .value < 1000000000
 value-here c = let l = c .before .before .before .before .loop in nine-digits (l .value) (l .digits) (l .inv .small) (room-here c)
 
 mul-value : tie.Need-mul-value Inv-loop μ-loop Inv-fields μ-fields
@@ -135,6 +141,9 @@ fields-again c =
 enum-told-2 : tie.Need-enum-told-2 Inv-loop μ-loop Inv-fields μ-fields
 enum-told-2 c = search needs
 
+right-line-requires : tie.Need-right-line-requires Inv-loop μ-loop Inv-fields μ-fields
+right-line-requires c κs = search needs
+
 enum-known-closed : tie.Need-enum-known-closed Inv-loop μ-loop Inv-fields μ-fields
 enum-known-closed c = search needs
 
@@ -143,24 +152,26 @@ wrong-line-requires-2 c κs = search needs
 
 returns : tie.Need-returns Inv-loop μ-loop Inv-fields μ-fields
 returns c =
-    let a = c .before .before .before .before .before .before .before .before .before .before .args in
-    let f = c .before .before .before .before .before .before .before .fields in
-    let l = c .before .before .before .before .before .loop in
-    let b = c .before .before .before .before .byte-at in
-    let d = c .before .before .before .is-digit in
-    let digit = sym (ap isDigit (b .ensures)) ∙ sym (d .ensures) ∙ not-false (d .result) (c .before .before .if1 .left) in
-    c .wrong-line .ensures ∙ read-too-many (a .widths .now) (a .s .now) (l .at) (f .k) (l .digits) (l .value) (f .numbers) (l .inv) digit (c .before .if2 .taken)
-
-returns-2 : tie.Need-returns-2 Inv-loop μ-loop Inv-fields μ-fields
-returns-2 c =
     let a = c .before .before .before .before .before .before .before .before .before .before .before .args in
     let f = c .before .before .before .before .before .before .before .before .fields in
     let l = c .before .before .before .before .before .before .loop in
     let b = c .before .before .before .before .before .byte-at in
     let d = c .before .before .before .before .is-digit in
-    let none = sym (ap isDigit (b .ensures)) ∙ sym (d .ensures) ∙ not-true (d .result) (c .before .before .before .if1 .taken) in
-    let k = c .before .before .closing-at in
-    read-last (a .widths .now) (a .s .now) (l .at) (f .k) (l .digits) (l .value) (f .numbers) (l .inv) none (k .result) (k .ensures) (c .enum-told2 .given .1)
+    let digit = sym (ap isDigit (b .ensures)) ∙ sym (d .ensures) ∙ not-false (d .result) (c .before .before .before .if1 .left) in
+    c .wrong-line .ensures
+    ∙ ap wrongLine (c .before .digit-too-many .ensures)
+    ∙ read-too-many (a .widths .now) (a .s .now) (l .at) (f .k) (l .digits) (l .value) (f .numbers) (l .inv) digit (c .before .before .if2 .taken)
+
+returns-2 : tie.Need-returns-2 Inv-loop μ-loop Inv-fields μ-fields
+returns-2 c =
+    let a = c .before .before .before .before .before .before .before .before .before .before .before .before .args in
+    let f = c .before .before .before .before .before .before .before .before .before .fields in
+    let l = c .before .before .before .before .before .before .before .loop in
+    let b = c .before .before .before .before .before .before .byte-at in
+    let d = c .before .before .before .before .before .is-digit in
+    let none = sym (ap isDigit (b .ensures)) ∙ sym (d .ensures) ∙ not-true (d .result) (c .before .before .before .before .if1 .taken) in
+    let k = c .before .before .before .closing-at in
+    c .right-line .ensures ∙ read-last (a .widths .now) (a .s .now) (l .at) (f .k) (l .digits) (l .value) (f .numbers) (l .inv) none (k .result) (k .ensures) (c .before .enum-told2 .given .1)
 
 returns-3 : tie.Need-returns-3 Inv-loop μ-loop Inv-fields μ-fields
 returns-3 c =
@@ -188,6 +199,7 @@ read-line-spec =
     loop-holds
     byte-at-requires
     is-digit-requires
+    digit-too-many-requires
     wrong-line-requires
     mul-value
     sub-value
@@ -205,6 +217,7 @@ read-line-spec =
     fields-less
     fields-again
     enum-told-2
+    right-line-requires
     enum-known-closed
     wrong-line-requires-2
     returns

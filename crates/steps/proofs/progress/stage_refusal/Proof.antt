@@ -2,7 +2,7 @@
 -- Assumes nothing.
 use mathlib.Core.Path.{sym, ap, _∙_}
 use Rattle.steps.specs.Progress.{stageRefusal}
-use Rattle.steps.proofs.ProgressLaws.{empty-line}
+use Rattle.rows.proofs.SettingsLineLaws.{settings-empty}
 use borrow.Author.Needs.{needs}
 use Rattle.steps.proofs.progress.stage_refusal.Statement.{statement}
 use Rattle.steps.proofs.progress.stage_refusal.Tie as tie
@@ -21,7 +21,7 @@ enum-known-stage c = search needs
 
 returns : tie.Need-returns
 unfolding stageRefusal
-returns c = sym empty-line ∙ ap stageRefusal (sym (c .enum-told .given .1))
+returns c = sym settings-empty ∙ ap stageRefusal (sym (c .enum-told .given .1))
 
 returns-2 : tie.Need-returns-2
 unfolding stageRefusal
