@@ -20,7 +20,7 @@ use Rattle.files.specs.declared.replay.Replay.{Replay}
 use Rattle.files.specs.declared.replay.Fed.{Fed}
 use Rattle.text.specs.Lines.{joined}
 use Rattle.steps.specs.Output.{spread, endRoom}
-use Rattle.files.specs.Replay.{Told, writtenFirst, toldOf, notesAndEnd, replayOf, configuredReplayOf, recordOf, explanationOf, longestLine, lineLimit, freshReplay, portionRoom, fed, writes, takes, fedBy, fedIf, feedAnswer, writesIf, feedWrites, endsWith, finishIf, finishWrites}
+use Rattle.files.specs.Replay.{Told, writtenFirst, toldOf, notesAndEnd, replayOf, configuredReplayOf, recordOf, explanationOf, longestLine, lineLimit, freshReplay, portionRoom, fed, writes, takes, fedBy, fedIf, feedAnswer, writesIf, feedWrites, endsWith, refusalAtEnd, finishIf, finishWrites}
 use Rattle.files.specs.device.Calls.{Sound}
 use Rattle.checks.proofs.Tests.{both-true, leb-iff}
 use Rattle.files.proofs.PortionLaws.{fed-form, fed-sound, fresh-sound, toldByPortions, told-of-portions}
@@ -97,9 +97,9 @@ module _ (r : Replay) (room : ℕ) where
 -- ---- all calls together
 
 -- what the calls hand out, one after the other: a portion each, with an output of `room` bytes, and then the end, with one of
--- `last`
+-- `last`, and what was refused
 unfoldable pub handedOut : Replay → List (List ℕ) → ℕ → ℕ → Told
-handedOut r [] room last = record { notes = []; end = finishWrites r last }
+handedOut r [] room last = record { notes = []; end = finishWrites r last; refused = refusalAtEnd r }
 handedOut r (p ∷ ps) room last = writtenFirst (feedWrites r p room) (handedOut (feedAnswer r p room .state) ps room last)
 
 -- the output has room for each portion and what a state may hold
@@ -120,6 +120,11 @@ module _ (room last : ℕ) (k : endRoom ≤ last) where
 
   pub told-of-calls : (form : Form) (c : Configuration) (ps : List (List ℕ)) → roomFor form ps room ≡ true → handedOut (freshReplay form c) ps room last ≡ toldOf form c (joined ps)
   told-of-calls form c ps e = handed-fed (freshReplay form c) ps (fresh-sound form c) e ∙ told-of-portions form c ps
+
+  -- whatever the portions, what was refused, and its place, are those of the whole input
+  pub refusal-of-calls : (form : Form) (c : Configuration) (ps : List (List ℕ)) → roomFor form ps room ≡ true
+      → handedOut (freshReplay form c) ps room last .refused ≡ toldOf form c (joined ps) .refused
+  refusal-of-calls form c ps e = ap (λ (x : Told). x .refused) (told-of-calls form c ps e)
 
   -- WHAT A TESTER RELIES ON: whatever the portions, what the calls hand out is the replay of the whole input
   pub replay-of-calls : (ps : List (List ℕ)) → roomFor Changes ps room ≡ true

@@ -36,7 +36,7 @@ use Rattle.steps.specs.declared.progress.Progress.{Progress}
 use Rattle.steps.specs.Refusals.{wrongLastSample}
 use Rattle.steps.specs.Configuration.{afterSettings, lastRefusal}
 use Rattle.steps.specs.Output.{noteOf, endLine}
-use Rattle.steps.specs.Progress.{freshProgress, stopped, opened, ticked, rowDone, stepped, noted, afterBy, afterLine, wroteBy, wroteLine, stageRefusal, endOf}
+use Rattle.steps.specs.Progress.{freshProgress, stopped, opened, ticked, rowDone, stepped, noted, afterBy, afterLine, wroteBy, wroteLine, stageRefusal, endRefusal, endOf}
 use Rattle.files.specs.Replay.{writtenFirst, byLines, toldOf, notesAndEnd, replayOf, configuredReplayOf, afterLines}
 use Rattle.files.proofs.RefusedLaws.{stopped-ends}
 use Rattle.files.proofs.ReplayLaws.{onlyEnd, opening, kept-refusal, told-of-nothing, told-of-refused-settings}
@@ -57,12 +57,12 @@ module _ (form : Form) (x : Fault) where
   abbrev begun : Progress
   begun = freshProgress (Given (Refused x))
 
-  refused-alone : (l : List ℕ) (ls : List (List ℕ)) → byLines form (opened begun (settings-line.Accepted (settingsIn (numbersOf l)))) ls ≡ onlyEnd (x .refusal)
+  refused-alone : (l : List ℕ) (ls : List (List ℕ)) → byLines form (opened begun (settings-line.Accepted (settingsIn (numbersOf l)))) ls ≡ onlyEnd (withoutPlace (x .refusal))
   unfolding stageRefusal
   refused-alone l ls = stopped-ends form (opened begun (settings-line.Accepted (settingsIn (numbersOf l)))) (withoutPlace (x .refusal)) ls refl
 
   told-of-refused-configuration : (s l : List ℕ) (ls : List (List ℕ)) → linesOf CrLf s ≡ l ∷ ls → settingsLineRefusal l .number ≡ 0
-      → toldOf form (Given (Refused x)) s ≡ onlyEnd (x .refusal)
+      → toldOf form (Given (Refused x)) s ≡ onlyEnd (withoutPlace (x .refusal))
   unfolding toldOf
   told-of-refused-configuration s l ls e h =
       ap (byLines form begun) e
@@ -128,7 +128,7 @@ module _ (form : Form) (c : Configuration) where
 
   -- so it changes nothing but the end line
   by-under : (runs : afterSettings c ≡ Running) (p : Progress) (ls : List (List ℕ))
-      → byLines form (under c p) ls ≡ record { notes = byLines form (under Absent p) ls .notes; end = endOf (under c (afterLines (under Absent p) ls)) }
+      → byLines form (under c p) ls ≡ record { notes = byLines form (under Absent p) ls .notes; end = endOf (under c (afterLines (under Absent p) ls)); refused = endRefusal (under c (afterLines (under Absent p) ls)) }
   unfolding byLines afterLines
   by-under runs p [] = refl
   by-under runs p (l ∷ ls) =
@@ -137,7 +137,7 @@ module _ (form : Form) (c : Configuration) where
       ap (λ (v : List ℕ). writtenFirst v (byLines form (afterLine (under c p) l) ls)) (wrote-under (p .stage) p l)
       ∙ ap (λ (x : Progress). writtenFirst w (byLines form x ls)) (line-under c runs (p .stage) p l)
       ∙ ap (writtenFirst w) (by-under runs q ls)
-      ∙ ap (λ (x : Progress). record { notes = w ++ byLines form x ls .notes; end = endOf (under c (afterLines x ls)) }) (sym (line-under Absent refl (p .stage) p l))
+      ∙ ap (λ (x : Progress). record { notes = w ++ byLines form x ls .notes; end = endOf (under c (afterLines x ls)); refused = endRefusal (under c (afterLines x ls)) }) (sym (line-under Absent refl (p .stage) p l))
 
 -- the rows done and the refusal, without a configuration
 abbrev pub rowsDone : List ℕ → ℕ

@@ -75,7 +75,7 @@ reached-sound r q h a = rw (a .state) (all-sound r (a .portions) h)
 -- ---- what is still to be written: the replay, line by line, of the line held and the rest of the input
 
 first-twice : (v w : List ℕ) (x : Told) → writtenFirst v (writtenFirst w x) ≡ writtenFirst (v ++ w) x
-first-twice v w x = ap (λ (notes : List ℕ). record { notes = notes; end = x .end }) (sym (append-assoc v w (x .notes)))
+first-twice v w x = ap (λ (notes : List ℕ). record { notes = notes; end = x .end; refused = x .refused }) (sym (append-assoc v w (x .notes)))
 
 pub by-lines-append : (form : Form) (p : Progress) (ls ms : List (List ℕ)) → byLines form p (ls ++ ms) ≡ writtenFirst (wroteLines form p ls) (byLines form (afterLines p ls) ms)
 unfolding byLines wroteLines afterLines

@@ -27,17 +27,19 @@ use Rattle.steps.specs.Progress.{freshProgress, afterLine, wroteLine, endRefusa
 
 -- ---- the whole input
 
--- what an input gives: what its rows write, one after the other, and the end line
+-- what an input gives: what its rows write, one after the other; the end line; and what was refused, with its place in the line,
+-- of which the end line has the number
 pub record Told : Type 0 where
   pub notes : List ℕ
   pub end : List ℕ
+  pub refused : Refusal
 
 abbrev pub endAlone : Progress → Told
-endAlone p = record { notes = []; end = endOf p }
+endAlone p = record { notes = []; end = endOf p; refused = endRefusal p }
 
 -- with bytes that were written before
 abbrev pub writtenFirst : List ℕ → Told → Told
-writtenFirst bytes x = record { notes = bytes ++ x .notes; end = x .end }
+writtenFirst bytes x = record { notes = bytes ++ x .notes; end = x .end; refused = x .refused }
 
 unfoldable pub byLines : Form → Progress → List (List ℕ) → Told
 byLines form p [] = endAlone p
