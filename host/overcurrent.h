@@ -10,8 +10,7 @@
  * in the caller's `states`.
  *
  * The archive is for x86-64.
- * Stack needed: 600 bytes; on the operations 2, 6, 7 and 10, whose table of
- * X(m) is built on the stack, 16,000 bytes. Read off its disassembly.
+ * Stack needed: 600 bytes, whatever the operation. Read off its disassembly.
  * It wants no symbol from elsewhere, memcpy neither.
  */
 #ifndef OVERCURRENT_H

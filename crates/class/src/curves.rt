@@ -125,3 +125,19 @@ pub(crate) fn ratios() {
     multiple(ratio);
     verdict(ratio == 2000);
 }
+
+// Whether the rows of X(m), which the curves read, have what the constant table has, at each ratio.
+fn rows_hold_the_table() -> bool {
+    let mut same = true;
+    for ratio in 101..=2000 {
+        same = same & (powers::x_of(ratio) == powers::x_in_table(ratio));
+    }
+    same
+}
+
+pub(crate) fn power_table() {
+    say(
+        b"\nX(m), m from 101 to 2000, as the curves read it: the 1900 entries of the constant table",
+    );
+    verdict(rows_hold_the_table());
+}

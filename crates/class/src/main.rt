@@ -8,6 +8,7 @@ fn main() {
     curves::ansi_table();
     curves::iec_points();
     curves::ratios();
+    curves::power_table();
     phases::phase_examples();
     timers::timer_examples();
 }

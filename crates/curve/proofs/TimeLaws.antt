@@ -9,15 +9,15 @@ use borrow.Author.Tests.{leb-true, le-leb, lt-leb, eqb-true}
 use lib.Dec.{leb, eqb}
 use Rattle.checks.specs.Range.{inRange}
 use Rattle.checks.proofs.Tests.{both-true, in-range, is-in-range, below-range, above-range}
+use Rattle.powers.specs.Power.{X}
+use Rattle.powers.proofs.PowerRule.{X-at-most, X-at-least}
+use Rattle.powers.proofs.Tables.{below-passes}
 use Rattle.curve.specs.declared.constants.Power.{Power}
 use Rattle.curve.specs.declared.constants.Power.the-variants.{Fiftieth, First, Second}
 use Rattle.curve.specs.declared.constants.Constants.{Constants}
 use Rattle.curve.specs.Constants.{constantsOf, curveTable, numbersIn}
-use Rattle.curve.specs.Power.{X}
 use Rattle.curve.specs.Time.{hasOperateTime, hasResetTime, inversePart, operateTime, resetPart, resetTime}
-use Rattle.curve.proofs.PowerRule.{X-at-most, X-at-least}
 use Rattle.curve.proofs.RoundingLaws.{rounded-up-at-least, rounded-up-at-most}
-use Rattle.curve.proofs.Tables.{below-passes}
 
 -- ---- the constants
 

@@ -3,11 +3,11 @@ use Prim.Native.Nat.{ℕ, _+_, _-_, _*_}
 use mathlib.Core.Bool.{Bool, cond, _&&_}
 use lib.Dec.{leb}
 use Rattle.checks.specs.Range.{inRange}
+use Rattle.powers.specs.Power.{X}
 use Rattle.curve.specs.declared.constants.Power.{Power}
 use Rattle.curve.specs.declared.constants.Power.the-variants.{Fiftieth, First, Second}
 use Rattle.curve.specs.Constants.{constantsOf}
 use Rattle.curve.specs.Rounding.{roundedUp}
-use Rattle.curve.specs.Power.{X}
 
 -- where the paper gives an operate time: operations 2 to 12, "m from 101 to 2000"
 abbrev pub hasOperateTime : ℕ → ℕ → Bool

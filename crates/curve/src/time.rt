@@ -4,8 +4,8 @@ ghost use Prim.Native.Nat.{_≤_, _^_};
 ghost use Rattle.curve.specs.Time.{inversePart, operateTime, resetPart, resetTime};
 use crate::constants::Power;
 use crate::constants::constants_of;
-use crate::power::x_of;
 use crate::rounding::round_up;
+use powers::x_of;
 
 // What a curve with the power a and the constant k adds to c at a ratio m.
 fn inverse_part(a: Power, k: u64, m: u32) -> u64

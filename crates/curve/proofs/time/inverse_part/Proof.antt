@@ -3,8 +3,11 @@
 use Prim.Native.Nat.{_≤_}
 use native.Mathlib.Nat.{mul-le-mul}
 use native.Mathlib.Omega.{arith}
+use mathlib.Core.Path.{_≡_}
 use borrow.Author.Needs.{needs}
-use Rattle.curve.proofs.PowerRule.{X-at-most}
+use Rattle.checks.proofs.Tests.{is-in-range}
+use Rattle.powers.specs.Power.{X}
+use Rattle.powers.proofs.PowerRule.{X-at-most}
 use Rattle.curve.proofs.RoundingLaws.{rounded-up-by-one-division}
 use Rattle.curve.proofs.TimeLaws.{square-above}
 use Rattle.curve.proofs.time.inverse_part.Statement.{statement}
@@ -18,13 +21,15 @@ x-of-requires c κs = search needs
 
 mul-result : tie.Need-mul-result
 mul-result c =
-    let x : c .x-of .result ≤ 10000000000 = rw (c .x-of .ensures) (X-at-most _) in
-    omega (arith, mul-le-mul (c .before .before .before .pre .0) x)
+    let (k, low, high) = c .before .before .before .pre in
+    let x : c .x-of .result ≤ 10000000000 = rw (c .x-of .ensures, is-in-range 101 2000 _ low high) (X-at-most _) in
+    omega (arith, mul-le-mul k x)
 
 add-result : tie.Need-add-result
 add-result c =
-    let x : c .x-of .result ≤ 10000000000 = rw (c .x-of .ensures) (X-at-most _) in
-    omega (arith, mul-le-mul (c .before .before .before .pre .0) x)
+    let (k, low, high) = c .before .before .before .pre in
+    let x : c .x-of .result ≤ 10000000000 = rw (c .x-of .ensures, is-in-range 101 2000 _ low high) (X-at-most _) in
+    omega (arith, mul-le-mul k x)
 
 enum-told-2 : tie.Need-enum-told-2
 enum-told-2 c = search needs
@@ -61,7 +66,9 @@ round-up-requires-2 c κs =
 
 returns : tie.Need-returns
 returns c =
-    rw (c .before .enum-told .given .1, ← c .x-of .ensures) (rounded-up-by-one-division _ 10000 (omega arith))
+    let (k, low, high) = c .before .before .before .pre in
+    let x : c .x-of .result ≡ X _ = rw (is-in-range 101 2000 _ low high) at (c .x-of .ensures) in
+    rw (c .before .enum-told .given .1, ← x) (rounded-up-by-one-division _ 10000 (omega arith))
 
 returns-2 : tie.Need-returns-2
 returns-2 c = rw (c .before .enum-told2 .given .1) (c .round-up .ensures)

@@ -1,7 +1,11 @@
 // The constant table of X(m).
+ghost use mathlib.Core.Bool.{cond};
+ghost use mathlib.Core.Path.{_≡_};
+ghost use Rattle.checks.specs.Range.{inRange};
+ghost use Rattle.powers.specs.Power.{X};
 
 // X(101), X(102) .. X(2000), as docs/power_table.py prints them.
-pub(crate) const X_TABLE: [u64; 1900] = [
+const X_TABLE: [u64; 1900] = [
     5024458557,
     2524417523,
     1691043557,
@@ -1903,3 +1907,18 @@ pub(crate) const X_TABLE: [u64; 1900] = [
     16198189,
     16195403,
 ];
+
+// X(m) as the table has it; 0 at a ratio that it has no entry for. Each reading builds the whole array on the stack, so the curves
+// read `x_of`, which gives the same.
+pub fn x_in_table(ratio: u32) -> u64
+    ensures { λ r. ⌜ r ≡ cond (inRange 101 2000 ratio) (X ratio) 0 ⌝ }
+{
+    match ratio {
+        0..=100 => 0,
+        101..=2000 => {
+            let i = (ratio - 101) as usize;
+            X_TABLE[i]
+        }
+        _ => 0,
+    }
+}

@@ -12,8 +12,8 @@ use lib.Dec.{lit≤, lit<}
 use lib.ListN.{length, getD}
 use Rattle.checks.proofs.Cases.{by-cond}
 use Rattle.checks.proofs.Tests.{both-true}
-use Rattle.curve.specs.Power.{Least, isEnough, firstEnough, X}
-use Rattle.curve.proofs.Tables.{everyEntry, entry-passes}
+use Rattle.powers.specs.Power.{Least, isEnough, firstEnough, X}
+use Rattle.powers.proofs.Tables.{everyEntry, entry-passes}
 
 -- ---- enough at a number is enough at every larger one
 

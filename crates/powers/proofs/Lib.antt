@@ -1,0 +1,5 @@
+pub mod Tables
+pub mod PowerRule
+pub mod PowerTable
+pub mod Arms
+pub mod PowerRows
