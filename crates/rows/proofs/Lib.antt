@@ -3,3 +3,5 @@ pub mod NumberedLaws
 pub mod RowLaws
 pub mod SettingsLineLaws
 pub mod FrontLaws
+pub mod FrontReading
+pub mod FrontRowLaws

@@ -3,3 +3,4 @@ pub mod Refusal
 pub mod Numbered
 pub mod Row
 pub mod SettingsLine
+pub mod device

@@ -1,9 +1,12 @@
 // Layer 4, one line at a time: data rows and the settings line.
+mod front;
 mod refusal;
 pub mod refusals;
 mod row;
 mod settings_line;
 
+pub use front::Front;
+pub use front::read_front;
 pub use refusal::Hint;
 pub use refusal::Refusal;
 pub use refusal::refuse;

@@ -1,10 +1,10 @@
 -- The lines of a stream: put together they are the stream; each but the last is closed. Where CR LF closes a line, none has it
--- before its end, and a line of right shape at the front of a stream is its first line.
+-- before its end, and a line of right shape at the front of a stream is its first line, and the first that the cutter closes.
 -- Assumes nothing.
 use mathlib.Core.Path.{_≡_, refl, sym, ap, _∙_}
 use mathlib.Core.Bool.{Bool, true, false, cond, _&&_, _||_, and-false}
 use mathlib.Core.List.{List, [], _∷_, _++_, append-assoc, append-nil}
-use Prim.Native.Nat.{ℕ, zero, suc, _+_, _-_}
+use Prim.Native.Nat.{ℕ, zero, suc, _+_, _-_, _≤_}
 use native.Mathlib.Omega.{arith}
 use lib.Dec.{eqb, lit<}
 use lib.ListN.{length, take, length-append}
@@ -13,7 +13,7 @@ use borrow.Author.Tests.{ne-eqb}
 use Rattle.text.specs.Line.{cr, lf, isLf, endsCrLf, body, crLf, fieldsIn, rightShape, spelled, written}
 use Rattle.text.specs.declared.lines.Closer.{Closer}
 use Rattle.text.specs.declared.lines.Closer.the-variants.{CrLf}
-use Rattle.text.specs.Lines.{closedBy, lastLine, linesFrom, linesOf, joined}
+use Rattle.text.specs.Lines.{closedBy, lastLine, linesFrom, linesOf, oneMore, cutting, joined}
 use Rattle.checks.proofs.Cases.{by-cond, not-both}
 use Rattle.text.proofs.LackLaws.{lacks, first-lacks, rest-lacks, spelled-lacks, Each}
 use Rattle.text.proofs.ShapeLaws.{crlf-ends, right-fits, right-written, fits-lack}
@@ -189,3 +189,26 @@ line-first ws l s h =
     ap (λ (k : List ℕ). linesOf CrLf (k ++ s)) q
     ∙ written-first (fieldsIn (body l)) s (fits-lack lf (lit< tt) ws (fieldsIn (body l)) (right-fits ws l h))
     ∙ ap (λ (k : List ℕ). k ∷ linesOf CrLf s) (sym q)
+
+-- ---- and the first that the cutter closes, where it is no longer than the limit
+
+cut-from : (limit : ℕ) (l t s : List ℕ) → lacks lf t ≡ true → length l + length t + 2 ≤ limit → cutting CrLf limit l (t ++ cr ∷ lf ∷ s) ≡ oneMore (l ++ (t ++ crLf)) (cutting CrLf limit [] s)
+unfolding cutting
+cut-from limit l [] s h k =
+    let n : length (l ++ (cr ∷ [])) ≡ length l + 1 = length-append l (cr ∷ []) in
+    let e : (l ++ (cr ∷ [])) ++ (lf ∷ []) ≡ l ++ crLf = append-assoc l (cr ∷ []) (lf ∷ []) in
+    rw (ends-other l cr refl, ne-eqb (length (l ++ (cr ∷ []))) limit (λ f. omega (arith, f, n, k)), e, crlf-ends l)
+cut-from limit l (b ∷ t) s h k =
+    let n : length (l ++ (b ∷ [])) ≡ length l + 1 = length-append l (b ∷ []) in
+    rw (ends-other l b (first-lacks lf b t h), ne-eqb (length (l ++ (b ∷ []))) limit (λ f. omega (arith, f, n, k)))
+    (cut-from limit (l ++ (b ∷ [])) t s (rest-lacks lf b t h) (omega (arith, n, k)) ∙ ap (λ (m : List ℕ). oneMore m (cutting CrLf limit [] s)) (append-assoc l (b ∷ []) (t ++ crLf)))
+
+pub line-cut : (limit : ℕ) (ws l s : List ℕ) → rightShape ws l ≡ true → length l ≤ limit → cutting CrLf limit [] (l ++ s) ≡ oneMore l (cutting CrLf limit [] s)
+line-cut limit ws l s h k =
+    let q = right-written ws l h in
+    let fs = fieldsIn (body l) in
+    let n : length l ≡ length (spelled fs) + 2 = ap length q ∙ length-append (spelled fs) crLf in
+    ap (λ (m : List ℕ). cutting CrLf limit [] (m ++ s)) q
+    ∙ ap (cutting CrLf limit []) (append-assoc (spelled fs) crLf s)
+    ∙ cut-from limit [] (spelled fs) s (spelled-lacks lf refl fs (fits-lack lf (lit< tt) ws fs (right-fits ws l h))) (omega (arith, n, k))
+    ∙ ap (λ (m : List ℕ). oneMore m (cutting CrLf limit [] s)) (sym q)

@@ -257,14 +257,14 @@ unfoldable found : List ℕ → List ℕ → List (List ℕ)
 found [] s = []
 found (w ∷ ws) s = leading w s ∷ found ws (drop (length (leading w s) + 1) s)
 
-lead-split : (w : ℕ) (s : List ℕ) → leading w s ++ drop (length (leading w s)) s ≡ s
+pub lead-split : (w : ℕ) (s : List ℕ) → leading w s ++ drop (length (leading w s)) s ≡ s
 unfolding leading
 lead-split zero s = refl
 lead-split (suc w) [] = refl
 lead-split (suc w) (b ∷ s) =
     by-cond (λ (l : List ℕ). l ++ drop (length l) (b ∷ s) ≡ b ∷ s) (isDigit b) (b ∷ leading w s) [] (λ e. ap (λ (t : List ℕ). b ∷ t) (lead-split w s)) (λ e. refl)
 
-lead-digits : (w : ℕ) (s : List ℕ) → allDigits (leading w s) ≡ true
+pub lead-digits : (w : ℕ) (s : List ℕ) → allDigits (leading w s) ≡ true
 unfolding leading allDigits
 lead-digits zero s = refl
 lead-digits (suc w) [] = refl
