@@ -1,12 +1,12 @@
 -- How large the constants of the curves and their times are.
 -- Assumes nothing.
 use Prim.Native.Nat.{ℕ, _+_, _-_, _*_, _^_, _≤_, _<_}
-use native.Mathlib.Nat.{mul-le-mul, zero-add}
+use native.Mathlib.Nat.{mul-le-mul}
 use native.Mathlib.Omega.{arith}
 use mathlib.Core.Bool.{Bool, true, false, _&&_, and-false}
-use mathlib.Core.Path.{_≡_, refl, _∙_, ap}
-use borrow.Author.Tests.{leb-true, le-leb, lt-leb, eqb-true}
-use lib.Dec.{leb, eqb}
+use mathlib.Core.Path.{_≡_, refl}
+use borrow.Author.Tests.{leb-true, le-leb, lt-leb}
+use lib.Dec.{leb}
 use Rattle.checks.specs.Range.{inRange}
 use Rattle.checks.proofs.Tests.{both-true, in-range, is-in-range, below-range, above-range}
 use Rattle.powers.specs.Power.{X}
@@ -58,14 +58,6 @@ kr-above-0 op low high =
     leb-true 1 _
     (rw place at (below-passes (λ i. leb 1 (numbersIn curveTable (6 + i) .kr)) 7 refl (op - 6) (omega arith)))
 
--- the IEC curves have no c
-iec-c : (op : ℕ) → 2 ≤ op → op ≤ 5 → constantsOf op .c ≡ 0
-unfolding constantsOf
-iec-c op low high =
-    let place : 2 + (op - 2) ≡ op = omega arith in
-    eqb-true (numbersIn curveTable op .c) 0
-    (rw place at (below-passes (λ i. eqb (numbersIn curveTable (2 + i) .c) 0) 4 refl (op - 2) (omega arith)))
-
 -- ---- the times
 
 pub square-above : (m : ℕ) → 101 ≤ m → m ≤ 2000 → (10201 ≤ m * m) × (m * m ≤ 4000000)
@@ -93,12 +85,6 @@ inverse-at-most Second k m h = omega (arith, rounded-up-at-most (k * 1000000) (m
 pub operate-time-by-parts : (op m : ℕ) → 2 ≤ op → op ≤ 12 → 101 ≤ m → m ≤ 2000 → operateTime op m ≡ constantsOf op .c + inversePart (constantsOf op .a) (constantsOf op .k) m
 unfolding operateTime
 operate-time-by-parts op m a b c d = rw (is-in-range 2 12 op a b, is-in-range 101 2000 m c d)
-
-pub iec-time : (op m : ℕ) → 2 ≤ op → op ≤ 5 → 101 ≤ m → m ≤ 2000 → operateTime op m ≡ inversePart (constantsOf op .a) (constantsOf op .k) m
-iec-time op m a b c d =
-    operate-time-by-parts op m a (omega arith) c d
-    ∙ ap (λ n. n + inversePart (constantsOf op .a) (constantsOf op .k) m) (iec-c op a b)
-    ∙ zero-add (inversePart (constantsOf op .a) (constantsOf op .k) m)
 
 pub reset-time-by-parts : (op m : ℕ) → 6 ≤ op → op ≤ 12 → m ≤ 99 → resetTime op m ≡ resetPart (constantsOf op .kr) m
 unfolding resetTime

@@ -20,7 +20,7 @@ fn inverse_part(a: Power, k: u64, m: u32) -> u64
     }
 }
 
-// T by the formula of the operation: the IEC curves have no c.
+// T by the formula of the operation: the IEC curves have no c, which is 0 in their rows.
 fn time_by_formula(operation: u32, ratio: u32) -> u64
     requires { ⌜ (101 ≤ ratio) × (ratio ≤ 2000) ⌝ }
     ensures { λ r. ⌜ r ≡ operateTime operation ratio ⌝ }
@@ -28,15 +28,10 @@ fn time_by_formula(operation: u32, ratio: u32) -> u64
     match operation {
         0 => 0,
         1 => 0,
-        2..=5 => {
-            let iec = constants_of(operation);
-            let a = iec.a;
-            inverse_part(a, iec.k, ratio)
-        }
-        6..=12 => {
-            let ansi = constants_of(operation);
-            let a = ansi.a;
-            ansi.c + inverse_part(a, ansi.k, ratio)
+        2..=12 => {
+            let row = constants_of(operation);
+            let a = row.a;
+            row.c + inverse_part(a, row.k, ratio)
         }
         _ => 0,
     }

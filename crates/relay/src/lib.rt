@@ -1,5 +1,5 @@
 // Layer 3, the relay: three phases, the decision, and one tick.
-mod outputs;
+pub mod outputs;
 pub mod refusals;
 pub mod state;
 pub mod step;

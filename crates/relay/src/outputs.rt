@@ -3,7 +3,7 @@ ghost use mathlib.Core.Path.{_≡_};
 ghost use Prim.Native.Nat.{_≤_};
 ghost use Rattle.relay.specs.Outputs.{bit, general, outputByte, startBits, tripBits};
 
-fn bit(on: bool, value: u8) -> u8
+pub fn bit(on: bool, value: u8) -> u8
     ensures { λ r. ⌜ (r ≡ bit on value) × (r ≤ value) ⌝ }
 {
     if on { value } else { 0 }

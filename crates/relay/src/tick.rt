@@ -4,10 +4,12 @@ ghost use Rattle.relay.specs.Tick.{relayTickAnswer};
 use crate::refusals::WRONG_BLOCK;
 use crate::state::RelayState;
 use crate::state::relay_first_failed;
-use crate::step::paces_of;
+use crate::step::courses_from;
+use crate::step::relay_of;
 use crate::step::step;
 use checks::first_failed;
 use phase::Settings;
+use plans::plan::plan_of;
 
 pub struct RelayTicked {
     pub refusal: u32,
@@ -34,9 +36,10 @@ pub fn tick(
             outputs: 0,
         };
     }
-    let paces = paces_of(settings, l1, l2, l3);
-    let stepped = step(settings, paces, state, l1, l2, l3, block);
-    let after = stepped.state;
+    let plan = plan_of(settings);
+    let courses = courses_from(settings, state);
+    let stepped = step(plan, courses, l1, l2, l3, block);
+    let after = relay_of(stepped.courses);
     RelayTicked {
         refusal: 0,
         state: after,

@@ -1,0 +1,173 @@
+-- A tick by the plan is the document's tick.
+-- Assumes nothing.
+use Prim.Native.Nat.{ℕ, _+_, _*_, _≤_, _<_, min}
+use native.Mathlib.Nat.{sub-zero, zero-sub}
+use native.Mathlib.Omega.{arith}
+use mathlib.Core.Bool.{Bool, true, false, cond, _&&_, and-false, false≢true}
+use mathlib.Core.Path.{_≡_, refl, sym, ap, _∙_}
+use borrow.Author.Tests.{leb-true, le-leb, lt-leb, ltb-true, ltb-false, eqb-true}
+use lib.Dec.{leb, ltb, eqb}
+use Rattle.checks.proofs.Cases.{by-cond}
+use Rattle.checks.proofs.Tests.{both-true}
+use Rattle.curve.proofs.GainLaws.{gain-at-most, no-loss-to-5}
+use Rattle.phase.specs.declared.operation.Kind.{Kind}
+use Rattle.phase.specs.declared.operation.Kind.the-variants.{Off, On}
+use Rattle.phase.specs.declared.operation.ResetRule.the-variants.{Iec, Ansi}
+use Rattle.phase.specs.declared.operation.Timing.{Timing}
+use Rattle.phase.specs.declared.operation.Timing.the-variants.{Definite, Curve}
+use Rattle.phase.specs.declared.settings.Settings.{Settings}
+use Rattle.phase.specs.declared.state.PhaseState.{PhaseState}
+use Rattle.phase.specs.device.Ranges.{InRange, InLimits}
+use Rattle.phase.specs.Operation.{kindOf}
+use Rattle.phase.specs.State.{runLimit, clearState, valid, validFor}
+use Rattle.phase.specs.Settings.{tripLevel}
+use Rattle.phase.specs.Tick.{gainAt, lossAt, started, countUp, afterStarted, afterIdle, nextBy, nextState, startBy, phaseStart, due, tripBy, phaseTrip}
+use Rattle.phase.proofs.Accepted.{valid-in-limits, valid-kind}
+use Rattle.phase.proofs.PaceLaws.{level-small}
+use Rattle.plans.specs.declared.memo.Memo.{Memo}
+use Rattle.plans.specs.declared.plan.Plan.{Plan}
+use Rattle.plans.specs.declared.course.Turned.{Turned}
+use Rattle.plans.specs.Memo.{memoOf}
+use Rattle.plans.specs.Plan.{noSample, noCount, levelOf, waitOf, onPlan, offPlan, planBy, planOf}
+use Rattle.plans.specs.Course.{courseOf, countTo, leastSample, afterStartedBy, afterIdleBy, dueBy, turnBy, turnedOf}
+
+-- ---- a plan has its settings
+
+settings-by : (kind : Kind) (settings : Settings) → planBy kind settings .settings ≡ settings
+settings-by Off settings = refl
+settings-by (On timing) settings = refl
+
+pub plan-settings : (settings : Settings) → planOf settings .settings ≡ settings
+unfolding planOf
+plan-settings settings = settings-by (kindOf (settings .operation)) settings
+
+-- ---- counts and thresholds
+
+count-up : (n : ℕ) → n ≤ runLimit → countTo runLimit n ≡ countUp n
+count-up n h =
+    by-cond (λ (x : ℕ). x ≡ countUp n) (ltb n runLimit) (n + 1) n (λ t. let low = ltb-true n runLimit t in omega (arith, low)) (λ t. let high = ltb-false n runLimit t in omega (arith, h, high))
+
+above : (n g : ℕ) → leb (n + 1) g ≡ ltb n g
+above n g =
+    by-cond (λ (x : ℕ). leb (n + 1) g ≡ ltb n g) (ltb n g) 0 0 (λ t. rw (t, le-leb (n + 1) g (omega (arith, ltb-true n g t)))) (λ t. rw (t, lt-leb (n + 1) g (omega (arith, ltb-false n g t))))
+
+on-started : (timing : Timing) (settings : Settings) (state : PhaseState) (g : ℕ) → leb (leastSample (onPlan timing settings) (state .run)) g ≡ started settings state g
+unfolding started
+on-started timing settings state g = go (ltb 0 (state .run))
+  where
+    go : (ran : Bool) → leb (cond ran (95 * settings .«start_current») (100 * settings .«start_current» + 1)) g ≡ cond ran (leb (95 * settings .«start_current») g) (ltb (100 * settings .«start_current») g)
+    go true = refl
+    go false = above (100 * settings .«start_current») g
+
+off-idle : (settings : Settings) (run g : ℕ) → g < noSample → leb (leastSample (offPlan settings) run) g ≡ false
+off-idle settings run g h = go (ltb 0 run)
+  where
+    go : (ran : Bool) → leb (cond ran noSample noSample) g ≡ false
+    go true = lt-leb noSample g h
+    go false = lt-leb noSample g h
+
+-- ---- a started tick
+
+after-started : (timing : Timing) (settings : Settings) (g : ℕ) (state : PhaseState) → state .run ≤ runLimit → afterStartedBy (onPlan timing settings) (gainAt settings g) state ≡ afterStarted timing settings g state
+after-started Definite settings g state h =
+    let sum : min (state .sum + gainAt settings g) 0 ≡ 0 = omega arith in
+    rw (sum, count-up (state .run) h)
+after-started (Curve rule) settings g state h = rw (count-up (state .run) h)
+
+due-now : (timing : Timing) (settings : Settings) (after : PhaseState) → after .run ≤ runLimit → dueBy (onPlan timing settings) after ≡ eqb (settings .«start_only») 0 && due timing settings after
+due-now timing settings after h = go timing (eqb (settings .«start_only») 0)
+  where
+    never : leb noCount (after .run) ≡ false
+    never = lt-leb noCount (after .run) (omega (arith, h))
+
+    go : (timing : Timing) (trips : Bool) → leb (levelOf timing settings) (after .sum) && leb (cond trips (waitOf timing settings) noCount) (after .run) ≡ trips && due timing settings after
+    go Definite true = rw (le-leb 0 (after .sum) (omega arith))
+    go (Curve rule) true = refl
+    go Definite false = rw (never, and-false (leb 0 (after .sum)))
+    go (Curve rule) false = rw (never, and-false (leb (tripLevel settings) (after .sum)))
+
+-- ---- an idle tick
+
+abbrev isIec : Kind → Bool
+isIec Off = false
+isIec (On Definite) = false
+isIec (On (Curve Iec)) = true
+isIec (On (Curve Ansi)) = false
+
+iec-low : (op : ℕ) → kindOf op ≡ On (Curve Iec) → op ≤ 5
+unfolding kindOf
+iec-low op e = leb-true op 5 (go (eqb op 0) (eqb op 1) (leb op 5) (leb op 12) (ap isIec e))
+  where
+    go : (a b c d : Bool) → isIec (cond a Off (cond b (On Definite) (cond c (On (Curve Iec)) (cond d (On (Curve Ansi)) Off)))) ≡ true → c ≡ true
+    go true b c d t = absurd (false≢true t)
+    go false true c d t = absurd (false≢true t)
+    go false false true d t = refl
+    go false false false true t = absurd (false≢true t)
+    go false false false false t = absurd (false≢true t)
+
+after-idle : (timing : Timing) (settings : Settings) (g : ℕ) (state : PhaseState) → kindOf (settings .operation) ≡ On timing → state .drop ≤ runLimit → validFor (On timing) state ≡ true → afterIdleBy (onPlan timing settings) (lossAt settings g) state ≡ afterIdle timing settings g state
+after-idle Definite settings g state kind h v =
+    let new = count-up (state .drop) h in
+    let never : leb noCount (countUp (state .drop)) ≡ false = lt-leb noCount (countUp (state .drop)) (omega arith) in
+    rw (new, never, eqb-true (state .sum) 0 v, zero-sub (lossAt settings g))
+after-idle (Curve Iec) settings g state kind h v =
+    let none : lossAt settings g ≡ 0 = no-loss-to-5 (settings .operation) _ (iec-low (settings .operation) kind) in
+    rw (none, sub-zero (state .sum), count-up (state .drop) h)
+after-idle (Curve Ansi) settings g state kind h v =
+    let new = count-up (state .drop) h in
+    let never : leb noCount (countUp (state .drop)) ≡ false = lt-leb noCount (countUp (state .drop)) (omega arith) in
+    rw (new, never)
+
+off-stays : (settings : Settings) (loss : ℕ) (state : PhaseState) → validFor Off state ≡ true → afterIdleBy (offPlan settings) loss state ≡ clearState
+off-stays settings loss state v =
+    let (front, drop) = both-true (eqb (state .sum) 0 && eqb (state .run) 0) (eqb (state .drop) 0) v in
+    let (sum, run) = both-true (eqb (state .sum) 0) (eqb (state .run) 0) front in
+    rw (eqb-true (state .sum) 0 sum, eqb-true (state .drop) 0 drop, zero-sub loss)
+
+-- ---- the tick
+
+abbrev tickBy : Kind → Bool → Settings → PhaseState → ℕ → Turned
+tickBy kind b settings state g =
+    record {
+      course = courseOf settings (nextBy kind b settings g state) g;
+      start = startBy kind b;
+      trip = tripBy kind b settings (nextBy kind b settings g state);
+    }
+
+on-turns : (timing : Timing) (b : Bool) (settings : Settings) (state : PhaseState) (g : ℕ) → kindOf (settings .operation) ≡ On timing → InLimits settings state → validFor (On timing) state ≡ true → turnBy (onPlan timing settings) (memoOf settings g) b state ≡ tickBy (On timing) b settings state g
+unfolding memoOf
+on-turns timing true settings state g kind limits v =
+    let after : PhaseState = afterStarted timing settings g state in
+    ap (λ (x : PhaseState). record { course = courseOf settings x g; start = true; trip = dueBy (onPlan timing settings) x }) (after-started timing settings g state (limits .run))
+    ∙ ap (λ (t : Bool). record { course = courseOf settings after g; start = true; trip = t }) (due-now timing settings after (omega arith))
+on-turns timing false settings state g kind limits v = rw (after-idle timing settings g state kind (limits .drop) v)
+
+by-kind : (kind : Kind) (settings : Settings) (state : PhaseState) (g : ℕ) → kindOf (settings .operation) ≡ kind → g < noSample → InLimits settings state → validFor kind state ≡ true → turnBy (planBy kind settings) (memoOf settings g) (leb (leastSample (planBy kind settings) (state .run)) g) state ≡ tickBy kind (started settings state g) settings state g
+by-kind Off settings state g kind h limits v =
+    rw (off-idle settings (state .run) g h, off-stays settings (memoOf settings g .loss) state v)
+by-kind (On timing) settings state g kind h limits v =
+    rw (on-started timing settings state g) (on-turns timing (started settings state g) settings state g kind limits v)
+
+plan-turns : (settings : Settings) (state : PhaseState) (g : ℕ) → g < noSample → valid settings state ≡ true → turnBy (planOf settings) (memoOf settings g) (leb (leastSample (planOf settings) (state .run)) g) state ≡ turnedOf settings state g
+unfolding planOf nextState phaseStart phaseTrip
+plan-turns settings state g h v =
+    by-kind (kindOf (settings .operation)) settings state g refl h (valid-in-limits settings state v) (valid-kind settings state v)
+
+-- the branch that the code takes
+pub turned-by : (plan : Plan) (state : PhaseState) (memo : Memo) (b : Bool) (g : ℕ) → plan ≡ planOf (plan .settings) → g < noSample → valid (plan .settings) state ≡ true → memo ≡ memoOf (plan .settings) g → leb (leastSample plan (state .run)) g ≡ b → turnBy plan memo b state ≡ turnedOf (plan .settings) state g
+turned-by plan state memo b g planned h v m e =
+    ap (λ (x : Bool). turnBy plan memo x state) (sym e)
+    ∙ ap (λ (x : Memo). turnBy plan x (leb (leastSample plan (state .run)) g) state) m
+    ∙ ap (λ (p : Plan). turnBy p (memoOf (plan .settings) g) (leb (leastSample p (state .run)) g) state) planned
+    ∙ plan-turns (plan .settings) state g h v
+
+-- ---- how large the numbers of a tick are
+
+pub gain-within : (settings : Settings) (memo : Memo) (g : ℕ) → memo ≡ memoOf settings g → memo .gain ≤ 1000000000000
+unfolding memoOf
+gain-within settings memo g e = rw e (gain-at-most _ _)
+
+pub state-within : (settings : Settings) (state : PhaseState) → InRange settings → valid settings state ≡ true → (state .sum ≤ 1500000000000) × (state .run ≤ runLimit) × (state .drop ≤ runLimit)
+state-within settings state range v =
+    let limits = valid-in-limits settings state v in
+    (omega (arith, limits .sum, level-small settings range), limits .run, limits .drop)

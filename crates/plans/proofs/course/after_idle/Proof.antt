@@ -1,0 +1,20 @@
+-- `plans::course::after_idle` meets its contract.
+-- Assumes nothing.
+use borrow.Author.Needs.{needs}
+use Rattle.plans.proofs.course.after_idle.Statement.{statement}
+use Rattle.plans.proofs.course.after_idle.Tie as tie
+
+count-to-requires : tie.Need-count-to-requires
+count-to-requires c κs = search needs
+
+drained-requires : tie.Need-drained-requires
+drained-requires c κs = search needs
+
+kept-requires : tie.Need-kept-requires
+kept-requires c κs = search needs
+
+returns : tie.Need-returns
+returns c = rw (c .kept .ensures, c .before .drained .ensures, c .before .before .count-to .ensures)
+
+pub after-idle-spec : {M : Type 1} → statement M
+after-idle-spec = tie.close (tie.spec count-to-requires drained-requires kept-requires returns)

@@ -1,0 +1,73 @@
+-- A device of the code: what the settings come to, by the group of operations. `plan-turns` of `proofs/` says what a tick by it is.
+use Prim.Native.Nat.{ℕ, _+_, _*_}
+use mathlib.Core.Bool.{cond}
+use lib.Dec.{eqb}
+use Rattle.phase.specs.declared.operation.Kind.{Kind}
+use Rattle.phase.specs.declared.operation.Kind.the-variants.{Off, On}
+use Rattle.phase.specs.declared.operation.ResetRule.{ResetRule}
+use Rattle.phase.specs.declared.operation.ResetRule.the-variants.{Iec, Ansi}
+use Rattle.phase.specs.declared.operation.Timing.{Timing}
+use Rattle.phase.specs.declared.operation.Timing.the-variants.{Definite, Curve}
+use Rattle.phase.specs.declared.settings.Settings.{Settings}
+use Rattle.phase.specs.Operation.{kindOf}
+use Rattle.phase.specs.Settings.{tripLevel}
+use Rattle.phase.specs.State.{runLimit}
+use Rattle.plans.specs.declared.plan.Plan.{Plan}
+
+-- no sample is so large
+abbrev pub noSample : ℕ
+noSample = 4294967296
+
+-- no count gets so far
+abbrev pub noCount : ℕ
+noCount = runLimit + 1
+
+abbrev pub levelOf : Timing → Settings → ℕ
+levelOf Definite settings = 0
+levelOf (Curve rule) settings = tripLevel settings
+
+abbrev pub waitOf : Timing → Settings → ℕ
+waitOf Definite settings = settings .«definite_delay»
+waitOf (Curve rule) settings = settings .«minimum_delay»
+
+abbrev pub delayOf : Timing → Settings → ℕ
+delayOf timing settings = cond (eqb (settings .«start_only») 0) (waitOf timing settings) noCount
+
+abbrev pub resetBy : ResetRule → Settings → ℕ
+resetBy Iec settings = settings .«reset_time»
+resetBy Ansi settings = noCount
+
+abbrev pub resetOf : Timing → Settings → ℕ
+resetOf Definite settings = noCount
+resetOf (Curve rule) settings = resetBy rule settings
+
+abbrev pub onPlan : Timing → Settings → Plan
+onPlan timing settings =
+    record {
+      settings = settings;
+      «starts_from» = 100 * settings .«start_current» + 1;
+      «stays_from» = 95 * settings .«start_current»;
+      level = levelOf timing settings;
+      delay = delayOf timing settings;
+      reset = resetOf timing settings;
+      «drop_limit» = runLimit;
+    }
+
+abbrev pub offPlan : Settings → Plan
+offPlan settings =
+    record {
+      settings = settings;
+      «starts_from» = noSample;
+      «stays_from» = noSample;
+      level = 0;
+      delay = noCount;
+      reset = noCount;
+      «drop_limit» = 0;
+    }
+
+abbrev pub planBy : Kind → Settings → Plan
+planBy Off settings = offPlan settings
+planBy (On timing) settings = onPlan timing settings
+
+unfoldable pub planOf : Settings → Plan
+planOf settings = planBy (kindOf (settings .operation)) settings

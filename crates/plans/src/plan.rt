@@ -1,0 +1,115 @@
+// What the settings come to, so that a tick asks for no group of operations.
+ghost use mathlib.Core.Path.{_≡_};
+ghost use Rattle.phase.specs.device.Ranges.{InRange};
+ghost use Rattle.plans.specs.Plan.{levelOf, delayOf, resetBy, resetOf, onPlan, offPlan, planOf};
+use phase::PhaseState;
+use phase::Settings;
+use phase::operation::Kind;
+use phase::operation::ResetRule;
+use phase::operation::Timing;
+use phase::operation::kind_of;
+use phase::settings::trip_level;
+
+// No sample is so large.
+const NO_SAMPLE: u64 = 4294967296;
+
+// No count gets so far.
+const NO_COUNT: u32 = PhaseState::RUN_LIMIT + 1;
+
+// The least sample that starts a phase that does not run, and the least that keeps one started that runs; the sum and the run
+// that a trip takes; the drop that clears the sum, and where drop stops.
+pub struct Plan {
+    pub settings: Settings,
+    pub starts_from: u64,
+    pub stays_from: u64,
+    pub level: u64,
+    pub delay: u32,
+    pub reset: u32,
+    pub drop_limit: u32,
+}
+
+// Definite has no sum: 0 is its level.
+fn level_of(timing: Timing, settings: Settings) -> u64
+    ensures { λ r. ⌜ r ≡ levelOf timing settings ⌝ }
+{
+    match timing {
+        Timing::Definite => 0,
+        Timing::Curve(_) => trip_level(settings),
+    }
+}
+
+// With start only on, no run gets to a trip.
+fn delay_of(timing: Timing, settings: Settings) -> u32
+    ensures { λ r. ⌜ r ≡ delayOf timing settings ⌝ }
+{
+    if settings.start_only != 0 {
+        return NO_COUNT;
+    }
+    match timing {
+        Timing::Definite => settings.definite_delay,
+        Timing::Curve(_) => settings.minimum_delay,
+    }
+}
+
+fn reset_by(rule: ResetRule, settings: Settings) -> u32
+    ensures { λ r. ⌜ r ≡ resetBy rule settings ⌝ }
+{
+    match rule {
+        ResetRule::Iec => settings.reset_time,
+        ResetRule::Ansi => NO_COUNT,
+    }
+}
+
+fn reset_of(timing: Timing, settings: Settings) -> u32
+    ensures { λ r. ⌜ r ≡ resetOf timing settings ⌝ }
+{
+    match timing {
+        Timing::Definite => NO_COUNT,
+        Timing::Curve(rule) => reset_by(rule, settings),
+    }
+}
+
+fn on_plan(timing: Timing, settings: Settings) -> Plan
+    requires { ⌜ InRange settings ⌝ }
+    ensures { λ r. ⌜ r ≡ onPlan timing settings ⌝ }
+{
+    let start_current = settings.start_current as u64;
+    let level = level_of(timing, settings);
+    let delay = delay_of(timing, settings);
+    let reset = reset_of(timing, settings);
+    Plan {
+        settings,
+        starts_from: 100 * start_current + 1,
+        stays_from: 95 * start_current,
+        level,
+        delay,
+        reset,
+        drop_limit: PhaseState::RUN_LIMIT,
+    }
+}
+
+// Off starts at no sample, and counts nothing.
+fn off_plan(settings: Settings) -> Plan
+    ensures { λ r. ⌜ r ≡ offPlan settings ⌝ }
+{
+    Plan {
+        settings,
+        starts_from: NO_SAMPLE,
+        stays_from: NO_SAMPLE,
+        level: 0,
+        delay: NO_COUNT,
+        reset: NO_COUNT,
+        drop_limit: 0,
+    }
+}
+
+pub fn plan_of(settings: Settings) -> Plan
+    requires { ⌜ InRange settings ⌝ }
+    ensures { λ r. ⌜ r ≡ planOf settings ⌝ }
+{
+    let kind = kind_of(settings.operation);
+    match kind {
+        Kind::Off => off_plan(settings),
+        Kind::On(timing) => on_plan(timing, settings),
+    }
+}
