@@ -39,6 +39,30 @@ more-by false l ls held = refl
 lines-more : (l : List ℕ) (x : Cutting) → linesIn (oneMore l x) ≡ l ∷ linesIn x
 lines-more l x = more-by (x .tooLong) l (x .lines) (x .held)
 
+-- a line that is cut at the front, and the rest
+module _ (s : Replay) (portion line rest : List ℕ) where
+  abbrev pub lineTaken : Replay
+  lineTaken = record { form = s .form; progress = afterLine (s .progress) line; cutter = emptyCutter }
+
+  abbrev onward : Cutter → Replay
+  onward c = record { form = s .form; progress = fedCut lineTaken rest (cutPortion lineTaken rest) .progress; cutter = c }
+
+  abbrev after : List (List ℕ) → Replay
+  after ls = record { form = s .form; progress = afterLines (s .progress) ls; cutter = cutterAfter (oneMore line (cutPortion lineTaken rest)) (s .cutter) portion }
+
+  pub fed-more : cutPortion s portion ≡ oneMore line (cutPortion lineTaken rest) → fed s portion ≡ fed lineTaken rest
+  unfolding fed afterLines
+  fed-more e =
+      ap (fedCut s portion) e
+      ∙ ap after (lines-more line (cutPortion lineTaken rest))
+      ∙ ap onward (line-taken CrLf lineLimit (s .cutter) portion line rest)
+
+  pub wrote-more : cutPortion s portion ≡ oneMore line (cutPortion lineTaken rest) → writes s portion ≡ wroteLine (s .form) (s .progress) line ++ writes lineTaken rest
+  unfolding writes wroteLines
+  wrote-more e =
+      ap (λ (x : Cutting). wroteLines (s .form) (s .progress) (linesIn x)) e
+      ∙ ap (wroteLines (s .form) (s .progress)) (lines-more line (cutPortion lineTaken rest))
+
 module _ (s : Replay) (p : List ℕ) (i : ℕ) (short : s .cutter .count < lineLimit) (room : length (s .cutter .held) ≡ heldRoom) (k : PieceCut)
     (answer : k ≡ pieceAnswer CrLf lineLimit (s .cutter) p i) where
   abbrev line : List ℕ
@@ -68,18 +92,8 @@ module _ (s : Replay) (p : List ℕ) (i : ℕ) (short : s .cutter .count < lineL
   unfolding fed afterLines withLong heldAfter
   fed-long e = ap (fedCut s (drop i p)) (cut-here TooLong e)
 
-  abbrev onward : Cutter → Replay
-  onward c = record { form = s .form; progress = fedCut next (drop (k .next) p) (cutPortion next (drop (k .next) p)) .progress; cutter = c }
-
-  abbrev after : List (List ℕ) → Replay
-  after ls = record { form = s .form; progress = afterLines (s .progress) ls; cutter = cutterAfter (cutAs Closed) (s .cutter) (drop i p) }
-
   fed-closed : k .cut ≡ Closed → fed s (drop i p) ≡ fed next (drop (k .next) p)
-  unfolding fed afterLines
-  fed-closed e =
-      ap (fedCut s (drop i p)) (cut-here Closed e)
-      ∙ ap after (lines-more line (cutPortion next (drop (k .next) p)))
-      ∙ ap onward (line-taken CrLf lineLimit (s .cutter) (drop i p) line (drop (k .next) p))
+  fed-closed e = fed-more s (drop i p) line (drop (k .next) p) (cut-here Closed e)
 
   abbrev wroteCut : Cutting → List ℕ
   wroteCut x = wroteLines (s .form) (s .progress) (linesIn x)
@@ -93,9 +107,7 @@ module _ (s : Replay) (p : List ℕ) (i : ℕ) (short : s .cutter .count < lineL
   wrote-long e = ap wroteCut (cut-here TooLong e) ∙ append-nil (wroteLine (s .form) (s .progress) line)
 
   wrote-closed : k .cut ≡ Closed → writes s (drop i p) ≡ wroteLine (s .form) (s .progress) line ++ writes next (drop (k .next) p)
-  unfolding writes wroteLines
-  wrote-closed e =
-      ap wroteCut (cut-here Closed e) ∙ ap (wroteLines (s .form) (s .progress)) (lines-more line (cutPortion next (drop (k .next) p)))
+  wrote-closed e = wrote-more s (drop i p) line (drop (k .next) p) (cut-here Closed e)
 
 -- ---- what holds of a portion at its place i: the state s and the rest of the portion give what the whole gives
 

@@ -7,3 +7,4 @@ pub mod ReplayLaws
 pub mod ConfigurationLaws
 pub mod NeverRefused
 pub mod ExplanationLaws
+pub mod AheadLaws

@@ -1,4 +1,5 @@
 // Layer 4: the replay fed by portions of its input.
+mod ahead;
 mod replay;
 
 pub use replay::Fed;

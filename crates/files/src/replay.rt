@@ -10,6 +10,7 @@ ghost use Rattle.steps.specs.Output.{spread};
 ghost use Rattle.steps.specs.Progress.{afterLine, wroteLine};
 ghost use Rattle.steps.specs.device.Calls.{LineNoted};
 ghost use Rattle.files.specs.device.Calls.{takenWith, PortionFed};
+use crate::ahead::run_ahead;
 use rows::Refusal;
 use steps::Configuration;
 use steps::END_ROOM;
@@ -86,7 +87,8 @@ fn on_held(form: Form, p: Progress, held: &[u8], n: usize, out: &mut [u8], at: u
     on_line(form, p, &held[..n], out, at)
 }
 
-// The bytes of a portion, line by line: what follows a line that is too long is not looked at.
+// The bytes of a portion, line by line: after a line that is closed the rows that stand whole are run ahead. What follows a line
+// that is too long is not looked at.
 fn feed_bytes(state: Replay, portion: &[u8], out: &mut [u8]) -> Fed
     requires { ⌜ (state .cutter .count < lineLimit) × (portionRoom (state .form) (state .cutter .count) (length (now portion)) ≤ length (now out)) ⌝ }
     ensures { λ r. ⌜ PortionFed state (now (portion .entry)) (now (out .entry)) (now (out .exit)) r ⌝ }
@@ -108,9 +110,11 @@ fn feed_bytes(state: Replay, portion: &[u8], out: &mut [u8]) -> Fed
             Cut::Closed => {
                 let n = cutter.count;
                 let t = on_held(form, progress, &cutter.held, n, out, at);
-                let after = t.progress;
+                let ahead = run_ahead(form, t.progress, portion, i, out, t.written);
+                let after = ahead.progress;
                 progress = after;
-                at = t.written;
+                i = ahead.next;
+                at = ahead.written;
                 cutter = Cutter::empty();
                 continue;
             }

@@ -16,7 +16,6 @@ use Rattle.faults.specs.Fault.{shapeOf}
 use Rattle.text.specs.Line.{fieldLimit}
 use Rattle.faults.specs.Reader.{lineAnswer}
 use Rattle.faults.proofs.LineLaws.{line-shape, line-number}
-use Rattle.rows.specs.declared.refusal.Refusal.{Refusal}
 use Rattle.rows.specs.Refusals.{wrongNumber}
 use Rattle.rows.specs.Refusal.{misshapen, withoutPlace, accepted, lineRefusal}
 use Rattle.rows.specs.Numbered.{numberedChecks, numberedRefusal}

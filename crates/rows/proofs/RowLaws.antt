@@ -9,7 +9,6 @@ use lib.Dec.{leb}
 use lib.ListN.{length, getD}
 use borrow.Author.Tests.{le-leb, lt-leb, leb-true}
 use Rattle.faults.specs.declared.fault.Fault.{Fault}
-use Rattle.faults.specs.declared.fault.Shape.{Shape}
 use Rattle.faults.specs.declared.fault.Shape.the-variants.{Right, Wrong}
 use Rattle.faults.specs.declared.reader.Line.{Line}
 use Rattle.rows.specs.declared.row.Row.{Row}

@@ -10,6 +10,7 @@ pub use output::END_ROOM;
 pub use output::EXPLAIN_SPREAD;
 pub use output::Form;
 pub use output::RECORD_SPREAD;
+pub use output::note_change;
 pub use progress::Noted;
 pub use progress::Progress;
 pub use progress::Stage;

@@ -55,7 +55,7 @@ fn put_change(out: &mut [u8], at: usize, row: u32, outputs: u8) -> usize
 }
 
 // The line of a tick whose output byte differs from the one before, and nothing for any other.
-fn note_change(out: &mut [u8], at: usize, row: u32, outputs: u8, before: u8) -> usize
+pub fn note_change(out: &mut [u8], at: usize, row: u32, outputs: u8, before: u8) -> usize
     requires { ⌜ (row ≤ lastRow) × (at + changeRoom ≤ length (now out)) ⌝ }
     ensures { λ r. ⌜ WroteWithin changeRoom (now (out .entry)) (now (out .exit)) at r (changeOf row outputs before) ⌝ }
 {

@@ -1,4 +1,4 @@
--- `files::replay::feed_bytes` meets its contract: a turn of the loop is a line that is closed.
+-- `files::replay::feed_bytes` meets its contract: a turn of the loop is a line that is closed, and the rows that are run ahead after it.
 -- Assumes nothing.
 use mathlib.Core.Path.{_≡_, ap, _∙_}
 use Prim.Native.Nat.{_-_}
@@ -7,6 +7,8 @@ use lib.ListN.{length}
 use lib.Seq.{length-sets}
 use borrow.Author.Needs.{needs}
 use Rattle.files.specs.declared.replay.Replay.{Replay}
+use Rattle.files.specs.device.Ahead.{still}
+use Rattle.files.proofs.AheadLaws.{turn-ahead, turn-room}
 use Rattle.files.proofs.FeedLaws.{FeedTurn, turn-first, taken, line-room, turn-held, turn-closed, turn-long, turn-last}
 use Rattle.files.proofs.replay.feed_bytes.Statement.{statement}
 use Rattle.files.proofs.replay.feed_bytes.Tie as tie
@@ -58,27 +60,41 @@ on-held-requires c κs =
     let room = line-room (a .state) (a .portion .now) (a .out .now) (l .i) s (l .at) (l .out) (l .inv) more (k .result) (k .ensures) in
     (omega (arith, piece .fits, piece .room), omega (arith, room, c .before .before .before .before .before .before .before .before .before .before .before .before .before .before .pre .1, l .inv .long))
 
+-- how far the line that was closed has come
+closed : (c : tie.After-on-held Inv-loop μ-loop)
+    → FeedTurn (c .before .before .before .before .before .before .before .before .before .before .before .before .before .before .before .args .state) (c .before .before .before .before .before .before .before .before .before .before .before .before .before .before .before .args .portion .now) (c .before .before .before .before .before .before .before .before .before .before .before .before .before .before .before .args .out .now) (c .before .before .before .before .before .before .before .before .cut .result .next) (still (c .before .before .before .before .before .before .before .before .before .before .before .before .before .before .before .args .state .form) (c .on-held .result .progress)) (c .on-held .result .written) (c .on-held .last .1 .1 .1 .1 .0)
+closed c =
+    let a = c .before .before .before .before .before .before .before .before .before .before .before .before .before .before .before .args in
+    let l = c .before .before .before .before .before .before .before .before .before .before .loop in
+    let more = c .before .before .before .before .before .before .before .before .before .loop-test .taken in
+    let k = c .before .before .before .before .before .before .before .before .cut in
+    let s : Replay = record { form = a .state .form; progress = l .progress; cutter = l .cutter } in
+    let t = c .on-held in
+    turn-closed (a .state) (a .portion .now) (a .out .now) (l .i) s (l .at) (l .out) (l .inv) more (k .result) (k .ensures) (c .before .before .before .before .before .enum-told2 .given .1) (t .result) (t .last .1 .1 .1 .1 .0) (t .ensures)
+
+run-ahead-requires : tie.Need-run-ahead-requires Inv-loop μ-loop
+run-ahead-requires c κs =
+    let line = c .before .before .before in
+    let s = line .before .before .before .before .before .before .before .before .before .before .before .before .before .before .before in
+    let turn = closed line in
+    (turn .within, turn-room _ _ _ _ _ _ _ turn (s .pre .1))
+
 empty-requires : tie.Need-empty-requires Inv-loop μ-loop
 empty-requires c κs = search needs
 
 loop-less : tie.Need-loop-less Inv-loop μ-loop
 loop-less c =
-    let a = c .before .before .before .before .before .before .before .before .before .before .before .before .before .before .before .before .before .before .before .args in
-    let l = c .before .before .before .before .before .before .before .before .before .before .before .before .before .before .loop in
-    let more = c .before .before .before .before .before .before .before .before .before .before .before .before .before .loop-test .taken in
-    let k = c .before .before .before .before .before .before .before .before .before .before .before .before .cut in
+    let line = c .before .before .before .before .before .before .before .before in
+    let a = line .before .before .before .before .before .before .before .before .before .before .before .before .before .before .before .args in
+    let l = line .before .before .before .before .before .before .before .before .before .before .loop in
+    let more = line .before .before .before .before .before .before .before .before .before .loop-test .taken in
+    let k = line .before .before .before .before .before .before .before .before .cut in
     let s : Replay = record { form = a .state .form; progress = l .progress; cutter = l .cutter } in
-    omega (arith, more, taken (a .state) (a .portion .now) (a .out .now) (l .i) s (l .at) (l .out) (l .inv) more (k .result) (k .ensures) .farther more)
+    let ran = c .before .before .before .before .run-ahead .ensures in
+    omega (arith, more, ran .on .farther, ran .on .within, taken (a .state) (a .portion .now) (a .out .now) (l .i) s (l .at) (l .out) (l .inv) more (k .result) (k .ensures) .farther more)
 
 loop-again : tie.Need-loop-again Inv-loop μ-loop
-loop-again c =
-    let a = c .before .before .before .before .before .before .before .before .before .before .before .before .before .before .before .before .before .before .before .args in
-    let l = c .before .before .before .before .before .before .before .before .before .before .before .before .before .before .loop in
-    let more = c .before .before .before .before .before .before .before .before .before .before .before .before .before .loop-test .taken in
-    let k = c .before .before .before .before .before .before .before .before .before .before .before .before .cut in
-    let s : Replay = record { form = a .state .form; progress = l .progress; cutter = l .cutter } in
-    let t = c .before .before .before .before .on-held in
-    rw (c .empty .ensures) (turn-closed (a .state) (a .portion .now) (a .out .now) (l .i) s (l .at) (l .out) (l .inv) more (k .result) (k .ensures) (c .before .before .before .before .before .before .before .before .before .enum-told2 .given .1) (t .result) (t .last .1 .1 .1 .1 .0) (t .ensures))
+loop-again c = rw (c .empty .ensures) (turn-ahead _ _ _ _ _ _ _ _ _ (closed (c .before .before .before .before .before .before .before .before)) (c .before .before .before .before .run-ahead .ensures))
 
 enum-told-3 : tie.Need-enum-told-3 Inv-loop μ-loop
 enum-told-3 c = search needs
@@ -145,6 +161,7 @@ feed-bytes-spec =
     returns
     enum-told-2
     on-held-requires
+    run-ahead-requires
     empty-requires
     loop-less
     loop-again
