@@ -10,7 +10,7 @@
  * in the caller's `states`.
  *
  * The archive is for x86-64.
- * Stack needed: 600 bytes, whatever the operation. Read off its disassembly.
+ * Stack needed: under 600 bytes, whatever the operation. `host/run --count` measures it.
  * It wants no symbol from elsewhere, memcpy neither.
  */
 #ifndef OVERCURRENT_H

@@ -20,7 +20,7 @@ use Rattle.phase.specs.declared.settings.Settings.{Settings}
 use Rattle.phase.specs.device.Ranges.{InRange}
 use Rattle.phase.specs.Settings.{settingsRefusal}
 use Rattle.plans.specs.declared.plan.Plan.{Plan}
-use Rattle.plans.specs.Plan.{planOf}
+use Rattle.plans.specs.device.Plan.{planOf}
 use Rattle.plans.proofs.PlanLaws.{plan-settings}
 use Rattle.relay.specs.device.Step.{relayOf, coursesFrom}
 use Rattle.relay.specs.declared.state.RelayState.{RelayState}

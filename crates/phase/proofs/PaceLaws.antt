@@ -1,19 +1,14 @@
 -- What a pace holds, and how large the numbers of a tick are.
 -- Assumes nothing.
-use Prim.Native.Nat.{ℕ, _≤_}
+use Prim.Native.Nat.{_≤_}
 use native.Mathlib.Omega.{arith}
-use mathlib.Core.Path.{_≡_, refl}
 use Rattle.curve.proofs.GainLaws.{gain-at-most, loss-at-most}
 use Rattle.phase.specs.declared.pace.Pace.{Pace}
 use Rattle.phase.specs.declared.settings.Settings.{Settings}
 use Rattle.phase.specs.declared.state.PhaseState.{PhaseState}
-use Rattle.phase.specs.device.Pace.{paceOf, Ready}
+use Rattle.phase.specs.device.Pace.{Ready}
 use Rattle.phase.specs.Settings.{tripLevel}
 use Rattle.phase.specs.device.Ranges.{InRange}
-
-pub pace-sample : (settings : Settings) (g : ℕ) → paceOf settings g .sample ≡ g
-unfolding paceOf
-pace-sample settings g = refl
 
 pub gain-small : (settings : Settings) (pace : Pace) (state : PhaseState) → Ready settings pace state → pace .gain ≤ 1000000000000
 gain-small settings pace state r = rw (r .gain) (gain-at-most _ _)

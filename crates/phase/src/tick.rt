@@ -1,14 +1,15 @@
 // One tick of one phase.
+ghost use mathlib.Core.Bool.{true};
 ghost use mathlib.Core.Path.{_≡_};
 ghost use Rattle.checks.specs.Checks.{firstFailed};
-ghost use Rattle.phase.specs.device.Pace.{Ready};
+ghost use Rattle.phase.specs.device.Ranges.{InRange};
+ghost use Rattle.phase.specs.State.{valid};
 ghost use Rattle.phase.specs.Tick.{due, startBy, tripBy, tickOf, phaseChecks, tickAnswer};
 use crate::advance::advance;
 use crate::advance::is_started;
 use crate::operation::Kind;
 use crate::operation::Timing;
 use crate::operation::kind_of;
-use crate::pace::Pace;
 use crate::pace::pace_of;
 use crate::refusals::INVALID_STATE;
 use crate::settings::Settings;
@@ -61,12 +62,13 @@ fn trip_by(kind: Kind, started: bool, settings: Settings, after: PhaseState) -> 
 }
 
 // A tick of settings and a state that were checked before.
-pub fn tick_ready(settings: Settings, pace: Pace, state: PhaseState) -> Ticked
-    requires { ⌜ Ready settings pace state ⌝ }
-    ensures { λ r. ⌜ r ≡ tickOf settings state (pace .sample) ⌝ }
+pub fn tick_ready(settings: Settings, state: PhaseState, g: u32) -> Ticked
+    requires { ⌜ InRange settings × (valid settings state ≡ true) ⌝ }
+    ensures { λ r. ⌜ r ≡ tickOf settings state g ⌝ }
 {
     let kind = kind_of(settings.operation);
-    let started = is_started(settings, state, pace.sample);
+    let pace = pace_of(settings, g);
+    let started = is_started(settings, state, g);
     let after = advance(kind, settings, pace, 1, state);
     let start = start_by(kind, started);
     let trip = trip_by(kind, started, settings, after);
@@ -101,6 +103,5 @@ pub fn tick(settings: Settings, state: PhaseState, g: u32) -> Ticked
             trip: false,
         };
     }
-    let pace = pace_of(settings, g);
-    tick_ready(settings, pace, state)
+    tick_ready(settings, state, g)
 }

@@ -7,7 +7,7 @@ use Rattle.curve.specs.Ratio.{ratioOf}
 use Rattle.curve.proofs.GainLaws.{ratio-at-setting, gain-zero-to-100, loss-zero-from-100}
 use Rattle.phase.specs.declared.settings.Settings.{Settings}
 use Rattle.plans.specs.declared.memo.Memo.{Memo}
-use Rattle.plans.specs.Memo.{memoOf}
+use Rattle.plans.specs.device.Memo.{memoOf}
 
 pub same-ratio : (settings : Settings) (last : Memo) (g m : ℕ) → last ≡ memoOf settings (last .sample) → m ≡ ratioOf g (settings .«start_current») → m ≡ last .ratio → record { sample = g; ratio = m; gain = last .gain; loss = last .loss } ≡ memoOf settings g
 unfolding memoOf

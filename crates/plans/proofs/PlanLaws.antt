@@ -27,9 +27,9 @@ use Rattle.phase.proofs.PaceLaws.{level-small}
 use Rattle.plans.specs.declared.memo.Memo.{Memo}
 use Rattle.plans.specs.declared.plan.Plan.{Plan}
 use Rattle.plans.specs.declared.course.Turned.{Turned}
-use Rattle.plans.specs.Memo.{memoOf}
-use Rattle.plans.specs.Plan.{noSample, noCount, levelOf, waitOf, onPlan, offPlan, planBy, planOf}
-use Rattle.plans.specs.Course.{courseOf, countTo, leastSample, afterStartedBy, afterIdleBy, dueBy, turnBy, turnedOf}
+use Rattle.plans.specs.device.Memo.{memoOf}
+use Rattle.plans.specs.device.Plan.{noSample, noCount, levelOf, waitOf, onPlan, offPlan, planBy, planOf}
+use Rattle.plans.specs.device.Course.{courseOf, countTo, leastSample, afterStartedBy, afterIdleBy, dueBy, turnBy, turnedOf}
 
 -- ---- a plan has its settings
 

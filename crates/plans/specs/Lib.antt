@@ -1,3 +1,1 @@
-pub mod Plan
-pub mod Memo
-pub mod Course
+pub mod device

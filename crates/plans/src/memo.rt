@@ -2,7 +2,7 @@
 ghost use mathlib.Core.Path.{_≡_};
 ghost use Prim.Native.Nat.{_*_};
 ghost use Rattle.phase.specs.device.Ranges.{InRange};
-ghost use Rattle.plans.specs.Memo.{memoOf};
+ghost use Rattle.plans.specs.device.Memo.{memoOf};
 use phase::Settings;
 
 pub struct Memo {

@@ -1,7 +1,7 @@
 // What the settings come to, so that a tick asks for no group of operations.
 ghost use mathlib.Core.Path.{_≡_};
 ghost use Rattle.phase.specs.device.Ranges.{InRange};
-ghost use Rattle.plans.specs.Plan.{levelOf, delayOf, resetBy, resetOf, onPlan, offPlan, planOf};
+ghost use Rattle.plans.specs.device.Plan.{levelOf, delayOf, resetBy, resetOf, onPlan, offPlan, planOf};
 use phase::PhaseState;
 use phase::Settings;
 use phase::operation::Kind;

@@ -1,4 +1,4 @@
-// One tick of the three phases by a plan: what a tick and each row of a recording do.
+// The three phases on their way from tick to tick by a plan.
 ghost use mathlib.Core.Path.{_≡_};
 ghost use Rattle.phase.specs.device.Ranges.{InRange};
 ghost use Rattle.relay.specs.device.Step.{StepReady, coursesFrom, relayOf, relayStep};
@@ -10,7 +10,6 @@ use plans::course::course_from;
 use plans::course::turn;
 use plans::plan::Plan;
 
-// The phases on their way.
 pub struct Courses {
     pub l1: Course,
     pub l2: Course,

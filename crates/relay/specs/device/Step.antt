@@ -6,9 +6,9 @@ use Rattle.phase.specs.declared.settings.Settings.{Settings}
 use Rattle.phase.specs.device.Ranges.{InRange}
 use Rattle.plans.specs.declared.plan.Plan.{Plan}
 use Rattle.plans.specs.declared.course.Course.{Course}
-use Rattle.plans.specs.Course.{courseOf}
-use Rattle.plans.specs.Memo.{memoOf}
-use Rattle.plans.specs.Plan.{planOf}
+use Rattle.plans.specs.device.Course.{courseOf}
+use Rattle.plans.specs.device.Memo.{memoOf}
+use Rattle.plans.specs.device.Plan.{planOf}
 use Rattle.relay.specs.declared.state.RelayState.{RelayState}
 use Rattle.relay.specs.declared.step.Courses.{Courses}
 use Rattle.relay.specs.declared.step.Stepped.{Stepped}

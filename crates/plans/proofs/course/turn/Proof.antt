@@ -1,6 +1,6 @@
 -- `plans::course::turn` meets its contract: with the memory of the sample, the branch that is taken is the tick by the plan.
 -- Assumes nothing.
-use Rattle.plans.specs.Course.{leastSample}
+use Rattle.plans.specs.device.Course.{leastSample}
 use Rattle.plans.proofs.PlanLaws.{turned-by, gain-within, state-within}
 use mathlib.Core.Bool.{true, false}
 use borrow.Author.Tests.{le-leb, lt-leb}

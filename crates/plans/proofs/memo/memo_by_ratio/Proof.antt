@@ -1,7 +1,7 @@
 -- `plans::memo::memo_by_ratio` meets its contract.
 -- Assumes nothing.
 use Rattle.plans.proofs.MemoLaws.{same-ratio}
-use Rattle.plans.specs.Memo.{memoOf}
+use Rattle.plans.specs.device.Memo.{memoOf}
 use borrow.Author.Needs.{needs}
 use Rattle.plans.proofs.memo.memo_by_ratio.Statement.{statement}
 use Rattle.plans.proofs.memo.memo_by_ratio.Tie as tie

@@ -1,6 +1,6 @@
 -- `plans::memo::next_memo` meets its contract.
 -- Assumes nothing.
-use Rattle.plans.specs.Memo.{memoOf}
+use Rattle.plans.specs.device.Memo.{memoOf}
 use mathlib.Core.Path.{_∙_, ap}
 use borrow.Author.Needs.{needs}
 use Rattle.plans.proofs.memo.next_memo.Statement.{statement}

@@ -1,6 +1,6 @@
 -- `plans::plan::plan_of` meets its contract: by the group of operations.
 -- Assumes nothing.
-use Rattle.plans.specs.Plan.{planOf}
+use Rattle.plans.specs.device.Plan.{planOf}
 use mathlib.Core.Path.{sym, _∙_}
 use borrow.Author.Needs.{needs}
 use Rattle.plans.proofs.plan.plan_of.Statement.{statement}

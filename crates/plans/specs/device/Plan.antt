@@ -1,4 +1,4 @@
--- A device of the code: what the settings come to, by the group of operations. `plan-turns` of `proofs/` says what a tick by it is.
+-- A device of the code: what the settings come to, by the group of operations. `turned-by` of `proofs/` says what a tick by it is.
 use Prim.Native.Nat.{ℕ, _+_, _*_}
 use mathlib.Core.Bool.{cond}
 use lib.Dec.{eqb}
