@@ -26,7 +26,7 @@ use Rattle.relay.specs.device.Step.{relayOf, coursesFrom}
 use Rattle.relay.specs.declared.state.RelayState.{RelayState}
 use Rattle.relay.specs.State.{validRelay}
 use Rattle.relay.specs.Tick.{nextRelay, relayChecks, relayTickAnswer}
-use Rattle.relay.proofs.RelayLaws.{is-three, begins-ready, step-leaves-ready, settings-not-refused, relay-passed, relay-tick-allowed, relay-tick-accepted}
+use Rattle.relay.proofs.RelayLaws.{is-three, next-three, begins-ready, step-leaves-ready, settings-not-refused, relay-passed, relay-tick-allowed, relay-tick-accepted}
 use Rattle.rows.specs.declared.row.Row.{Row}
 use Rattle.rows.specs.declared.row.RowRead.the-variants.{Accepted}
 use Rattle.rows.specs.declared.front.Front.{Front}
@@ -61,8 +61,12 @@ module _ (c : Configuration) (plan : Plan) (way : Way) (line : List ℕ) (x : Ro
       (relay-tick-allowed (plan .settings) (relayOf (way .courses)) (x .block) (ready .accepted) (ready .step .valid) (accepted-row line (way .done) x read .block))
 
   row-after : afterLine now line ≡ progressOn c (plan .settings) (wayAfter (plan .settings) way x)
-  unfolding afterBy nextRelay
-  row-after = ap (stepped now) read ∙ rw ticked-right
+  unfolding afterBy
+  row-after =
+      let after = nextRelay (plan .settings) (relayOf (way .courses)) (x .l1) (x .l2) (x .l3) in
+      ap (stepped now) read
+      ∙ rw ticked-right
+      (ap (λ (r : RelayState). record { configuration = c; stage = Running; settings = plan .settings; relay = r; done = way .done + 1; outputs = byteAt (plan .settings) way x }) (is-three after (next-three (plan .settings) (relayOf (way .courses)) (x .l1) (x .l2) (x .l3))))
 
   row-wrote : wroteLine Changes now line ≡ changeAt (plan .settings) way x
   unfolding wroteBy
