@@ -131,10 +131,13 @@ int main(int words, char **word)
         return print_cases();
     if (words == 2 && strcmp(word[1], "check") == 0)
         return check();
+    struct side *side = words < 4 ? NULL
+        : strcmp(word[1], "plain") == 0 ? &plain
+        : strcmp(word[1], "archive") == 0 ? &archive : NULL;
     int number = words == 4 ? atoi(word[2]) : -1;
-    if (number < 0 || number >= CASES) {
+    if (side == NULL || number < 0 || number >= CASES) {
         fprintf(stderr, "usage: count cases | check | archive CASE ROUNDS | plain CASE ROUNDS\n");
         return 2;
     }
-    return run_rounds(strcmp(word[1], "plain") == 0 ? &plain : &archive, number, atoi(word[3]));
+    return run_rounds(side, number, atoi(word[3]));
 }

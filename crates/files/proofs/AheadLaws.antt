@@ -74,7 +74,7 @@ module _ (c : Configuration) (plan : Plan) (way : Way) (line : List ℕ) (x : Ro
 
 -- ---- from place to place
 
-pub onward-none : (portion : List ℕ) (i : ℕ) (s : Replay) → i ≤ length portion → Onward portion i s i s []
+onward-none : (portion : List ℕ) (i : ℕ) (s : Replay) → i ≤ length portion → Onward portion i s i s []
 onward-none portion i s h = record { farther = omega arith; within = h; state = refl; bytes = refl; short = omega arith }
 
 onward-then : (portion : List ℕ) (i j k : ℕ) (s t u : Replay) (v w : List ℕ) → Onward portion i s j t v → Onward portion j t k u w → s .form ≡ t .form → Onward portion i s k u (v ++ w)

@@ -1,4 +1,4 @@
--- What a pace holds, and how large the numbers of a tick are.
+-- How large the numbers of a tick are.
 -- Assumes nothing.
 use Prim.Native.Nat.{_≤_}
 use native.Mathlib.Omega.{arith}

@@ -157,10 +157,8 @@ pub record AtFront (p : List ℕ) (at last : ℕ) (x : Front) : Type 0 where
   pub here : drop at p ≡ line ++ drop (x .next) p
   -- the reader of rows, on that line
   pub accepted : rowAnswer line last ≡ Accepted (x .row)
-  pub number : x .row .number ≡ last + 1
   -- the cutter of the stream, whatever comes after it
   pub cut : (rest : List ℕ) → cutting CrLf frontRoom [] (line ++ rest) ≡ oneMore line (cutting CrLf frontRoom [] rest)
-  pub short : length line ≤ 45
   pub place : x .next ≡ at + length line
   pub farther : at < x .next
   pub within : x .next ≤ length p
@@ -181,9 +179,7 @@ module _ (p : List ℕ) (at last : ℕ) where
         line = line;
         here = x .standing .here ∙ ap (λ (t : List ℕ). t ++ drop (fieldsFrom p at .next) p) e;
         accepted = row-right line last (valuesOf fs) right (written-numbers _ _ fs (x .standing .fits)) n (x .low);
-        number = n;
         cut = λ rest. line-cut frontRoom rowWidths line rest right (omega (arith, most));
-        short = omega (arith, most);
         place = place;
         farther = omega (arith, place, least);
         within = x .standing .within;
