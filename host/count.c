@@ -15,7 +15,7 @@
 #include <string.h>
 #include <ucontext.h>
 
-/* The aim is of the ratio archive / plain, or of the archive's instructions a tick. */
+/* The aim is as line_of_counts of host/counts has it. */
 static const struct {
     const char *name, *aim;
     uint32_t operation;
@@ -26,11 +26,12 @@ static const struct {
     {"idle, ANSI, constant", "0.7", OC_ANSI_EXT_INV, &idle, CONSTANT},
     {"started, 0.02, constant", "0.7", OC_IEC_INV, &counting, CONSTANT},
     {"started, power 2, constant", "0.7", OC_ANSI_EXT_INV, &counting, CONSTANT},
-    {"started, 0.02, changing", "1.0", OC_IEC_INV, &counting, CHANGING},
-    {"started, power 2, changing", "1.0", OC_ANSI_EXT_INV, &counting, CHANGING},
-    {"started, power 1, changing", "1.0", OC_IEC_VERY_INV, &counting, CHANGING},
-    {"mixed, 0.02, changing", "1.0", OC_IEC_INV, &mixed, CHANGING},
-    {"mixed, power 2, changing", "1.0", OC_ANSI_EXT_INV, &mixed, CHANGING},
+    {"idle, IEC, changing", "1.0", OC_IEC_INV, &idle, CHANGING},
+    {"started, 0.02, changing", "1.2 shifting", OC_IEC_INV, &counting, CHANGING},
+    {"started, power 2, changing", "1.2 shifting", OC_ANSI_EXT_INV, &counting, CHANGING},
+    {"started, power 1, changing", "1.2 shifting", OC_IEC_VERY_INV, &counting, CHANGING},
+    {"mixed, 0.02, changing", "1.2 shifting", OC_IEC_INV, &mixed, CHANGING},
+    {"mixed, power 2, changing", "1.2 shifting", OC_ANSI_EXT_INV, &mixed, CHANGING},
     {"definite, changing", "1.0", OC_DEFINITE, &counting, CHANGING},
     {"off, changing", "40 a tick", OC_OFF, &counting, CHANGING},
     {"0.02, wandering slowly", "1.0", OC_IEC_INV, &wandering, WANDERING},

@@ -1,7 +1,7 @@
 -- What the layers above need of gain and loss, without opening them.
 -- Assumes nothing.
-use Prim.Native.Nat.{ℕ, _*_, _/_, _^_, _≤_, _<_}
-use native.Mathlib.Nat.{div-le-of-le-mul, div-zero, mul-div-cancel, mul-le-mul-right}
+use Prim.Native.Nat.{ℕ, _/_, _^_, _≤_}
+use native.Mathlib.Nat.{div-le-of-le-mul, div-zero, mul-le-mul-right}
 use native.Mathlib.Omega.{arith}
 use mathlib.Core.Bool.{Bool, true, false, cond, and-false}
 use mathlib.Core.Path.{_≡_, refl}
@@ -9,7 +9,6 @@ use borrow.Author.Tests.{lt-leb}
 use Rattle.checks.specs.Range.{inRange}
 use Rattle.checks.proofs.Tests.{below-range}
 use Rattle.curve.specs.Gain.{gainOf, lossOf}
-use Rattle.curve.specs.Ratio.{ratioOf}
 use Rattle.curve.specs.Time.{hasOperateTime, hasResetTime, operateTime, resetTime}
 use Rattle.curve.proofs.TimeLaws.{operate-time-at-least, reset-time-at-least}
 
@@ -44,11 +43,7 @@ pub loss-by-time : (op m : ℕ) → 10 ^ 14 / resetTime op m ≡ lossOf op m
 unfolding lossOf resetTime
 loss-by-time op m = share-of (hasResetTime op m) _
 
--- ---- at the setting itself
-
-pub ratio-at-setting : (s : ℕ) → 0 < s → ratioOf (100 * s) s ≡ 100
-unfolding ratioOf
-ratio-at-setting s h = rw (mul-div-cancel 100 h)
+-- ---- where there is none
 
 -- "it is 0 at m = 100 or less"
 pub gain-zero-to-100 : (op m : ℕ) → m ≤ 100 → gainOf op m ≡ 0
@@ -60,7 +55,12 @@ pub loss-zero-from-100 : (op m : ℕ) → 100 ≤ m → lossOf op m ≡ 0
 unfolding lossOf
 loss-zero-from-100 op m h = rw (lt-leb m 99 (omega arith), and-false (inRange 6 12 op))
 
--- ---- only the ANSI curves have a reset time
+-- Off and Definite have no operate time
+pub no-gain-to-1 : (op m : ℕ) → op ≤ 1 → gainOf op m ≡ 0
+unfolding gainOf
+no-gain-to-1 op m h = rw (below-range 2 12 op (omega arith))
+
+-- only the ANSI curves have a reset time
 pub no-loss-to-5 : (op m : ℕ) → op ≤ 5 → lossOf op m ≡ 0
 unfolding lossOf
 no-loss-to-5 op m h = rw (below-range 6 12 op (omega arith))

@@ -1,3 +1,5 @@
+pub mod LongDivision
 pub mod RoundingLaws
 pub mod TimeLaws
+pub mod RatioLaws
 pub mod GainLaws

@@ -14,7 +14,7 @@ fn inverse_part(a: Power, k: u64, m: u32) -> u64
 {
     let ratio = m as u64;
     match a {
-        Power::Fiftieth => (k * x_of(m) + 9999) / 10000,
+        Power::Fiftieth => round_up(k * x_of(m), 10000),
         Power::First => round_up(k * 10000, ratio - 100),
         Power::Second => round_up(k * 1000000, ratio * ratio - 10000),
     }

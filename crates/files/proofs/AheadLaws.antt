@@ -21,7 +21,7 @@ use Rattle.phase.specs.device.Ranges.{InRange}
 use Rattle.phase.specs.Settings.{settingsRefusal}
 use Rattle.plans.specs.declared.plan.Plan.{Plan}
 use Rattle.plans.specs.device.Plan.{planOf}
-use Rattle.plans.proofs.PlanLaws.{plan-settings}
+use Rattle.plans.proofs.PlanLaws.{plan-settings, plan-is}
 use Rattle.relay.specs.device.Step.{relayOf, coursesFrom}
 use Rattle.relay.specs.declared.state.RelayState.{RelayState}
 use Rattle.relay.specs.State.{validRelay}
@@ -188,7 +188,7 @@ pub ran-ahead : (form : Form) (p : Progress) (portion : List ℕ) (from : ℕ) (
     → Quick form p → length (p .relay .phases) ≡ 3 → plan ≡ planOf (p .settings) → way ≡ wayFrom p → RowsRan (plan .settings) way portion from before after at r
     → progress ≡ progressOn (p .configuration) (p .settings) (r .way) → RanAhead form p portion from before after at (record { progress = progress; next = r .next; written = r .written })
 ran-ahead form p portion from before after at plan way r progress q long e w ran end =
-    let own : plan .settings ≡ p .settings = ap (λ (x : Plan). x .settings) e ∙ plan-settings (p .settings) in
+    let own : plan .settings ≡ p .settings = plan-is plan (p .settings) e in
     let begun : progressOn (p .configuration) (plan .settings) way ≡ p = rw (own, w) (begins-at form p q long) in
     let ended : progressOn (p .configuration) (plan .settings) (r .way) ≡ progress = rw own (sym end) in
     record {

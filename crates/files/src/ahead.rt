@@ -4,6 +4,7 @@ ghost use mathlib.Core.Path.{_≡_};
 ghost use Prim.Native.Nat.{_+_, _*_, _-_, _≤_};
 ghost use lib.ListN.{length};
 ghost use Rattle.phase.specs.device.Ranges.{InRange};
+ghost use Rattle.plans.specs.device.Plan.{planOf};
 ghost use Rattle.rows.specs.Row.{lastRow};
 ghost use Rattle.files.specs.device.Ahead.{writesChanges, isRunning, isQuick, wayFrom, progressOn, wayAfter, changeAt};
 ghost use Rattle.files.specs.device.Ahead.{WayReady, RowsRan, RanAhead};
@@ -50,11 +51,11 @@ pub struct Ahead {
     pub written: usize,
 }
 
-fn way_from(p: Progress) -> Way
-    requires { ⌜ InRange (p .settings) ⌝ }
+fn way_from(plan: Plan, p: Progress) -> Way
+    requires { ⌜ InRange (p .settings) × (plan ≡ planOf (p .settings)) ⌝ }
     ensures { λ r. ⌜ r ≡ wayFrom p ⌝ }
 {
-    let courses = courses_from(p.settings, p.relay);
+    let courses = courses_from(plan, p.relay);
     Way {
         courses,
         done: p.done,
@@ -168,7 +169,8 @@ pub(crate) fn run_ahead(
     ensures { λ r. ⌜ RanAhead form p (now (portion .entry)) from (now (out .entry)) (now (out .exit)) at r ⌝ }
 {
     if is_quick(form, p) {
-        let ran = run_rows(plan_of(p.settings), way_from(p), portion, from, out, at);
+        let plan = plan_of(p.settings);
+        let ran = run_rows(plan, way_from(plan, p), portion, from, out, at);
         let progress = progress_on(p, ran.way);
         return Ahead {
             progress,

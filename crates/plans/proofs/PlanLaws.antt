@@ -1,11 +1,11 @@
 -- A tick by the plan is the document's tick.
 -- Assumes nothing.
-use Prim.Native.Nat.{ℕ, _+_, _*_, _≤_, _<_, min}
+use Prim.Native.Nat.{ℕ, _+_, _-_, _*_, _≤_, _<_, min}
 use native.Mathlib.Nat.{sub-zero, zero-sub}
 use native.Mathlib.Omega.{arith}
 use mathlib.Core.Bool.{Bool, true, false, cond, _&&_, and-false, false≢true}
 use mathlib.Core.Path.{_≡_, refl, sym, ap, _∙_}
-use borrow.Author.Tests.{leb-true, le-leb, lt-leb, ltb-true, ltb-false, eqb-true}
+use borrow.Author.Tests.{leb-true, leb-false, le-leb, lt-leb, lt-ltb, le-ltb, ltb-true, ltb-false, eqb-true}
 use lib.Dec.{leb, ltb, eqb}
 use Rattle.checks.proofs.Cases.{by-cond}
 use Rattle.checks.proofs.Tests.{both-true}
@@ -26,10 +26,11 @@ use Rattle.phase.proofs.Accepted.{valid-in-limits, valid-kind}
 use Rattle.phase.proofs.PaceLaws.{level-small}
 use Rattle.plans.specs.declared.memo.Memo.{Memo}
 use Rattle.plans.specs.declared.plan.Plan.{Plan}
+use Rattle.plans.specs.declared.course.Course.{Course}
 use Rattle.plans.specs.declared.course.Turned.{Turned}
-use Rattle.plans.specs.device.Memo.{memoOf}
-use Rattle.plans.specs.device.Plan.{noSample, noCount, levelOf, waitOf, onPlan, offPlan, planBy, planOf}
-use Rattle.plans.specs.device.Course.{courseOf, countTo, leastSample, afterStartedBy, afterIdleBy, dueBy, turnBy, turnedOf}
+use Rattle.plans.specs.device.Memo.{topSample, memoOf}
+use Rattle.plans.specs.device.Plan.{noCount, levelOf, waitOf, onPlan, offPlan, planBy, planOf}
+use Rattle.plans.specs.device.Course.{idleTo, courseBy, TurnReady, countTo, afterStartedBy, afterIdleBy, dueBy, turnBy, turnedOf}
 
 -- ---- a plan has its settings
 
@@ -41,30 +42,33 @@ pub plan-settings : (settings : Settings) → planOf settings .settings ≡ sett
 unfolding planOf
 plan-settings settings = settings-by (kindOf (settings .operation)) settings
 
+pub plan-is : (plan : Plan) (settings : Settings) → plan ≡ planOf settings → plan .settings ≡ settings
+plan-is plan settings e = ap (λ (p : Plan). p .settings) e ∙ plan-settings settings
+
 -- ---- counts and thresholds
 
 count-up : (n : ℕ) → n ≤ runLimit → countTo runLimit n ≡ countUp n
 count-up n h =
     by-cond (λ (x : ℕ). x ≡ countUp n) (ltb n runLimit) (n + 1) n (λ t. let low = ltb-true n runLimit t in omega (arith, low)) (λ t. let high = ltb-false n runLimit t in omega (arith, h, high))
 
-above : (n g : ℕ) → leb (n + 1) g ≡ ltb n g
-above n g =
-    by-cond (λ (x : ℕ). leb (n + 1) g ≡ ltb n g) (ltb n g) 0 0 (λ t. rw (t, le-leb (n + 1) g (omega (arith, ltb-true n g t)))) (λ t. rw (t, lt-leb (n + 1) g (omega (arith, ltb-false n g t))))
+above : (n g : ℕ) → 0 < n → ltb (n - 1) g ≡ leb n g
+above n g pos =
+    by-cond (λ (x : ℕ). ltb (n - 1) g ≡ leb n g) (leb n g) 0 0 (λ t. rw (t, lt-ltb (n - 1) g (omega (arith, leb-true n g t)))) (λ t. rw (t, le-ltb (n - 1) g (omega (arith, leb-false n g t))))
 
-on-started : (timing : Timing) (settings : Settings) (state : PhaseState) (g : ℕ) → leb (leastSample (onPlan timing settings) (state .run)) g ≡ started settings state g
+on-started : (timing : Timing) (settings : Settings) (state : PhaseState) (g : ℕ) → 0 < settings .«start_current» → ltb (idleTo (onPlan timing settings) (state .run)) g ≡ started settings state g
 unfolding started
-on-started timing settings state g = go (ltb 0 (state .run))
+on-started timing settings state g pos = go (ltb 0 (state .run))
   where
-    go : (ran : Bool) → leb (cond ran (95 * settings .«start_current») (100 * settings .«start_current» + 1)) g ≡ cond ran (leb (95 * settings .«start_current») g) (ltb (100 * settings .«start_current») g)
-    go true = refl
-    go false = above (100 * settings .«start_current») g
+    go : (ran : Bool) → ltb (cond ran (95 * settings .«start_current» - 1) (100 * settings .«start_current»)) g ≡ cond ran (leb (95 * settings .«start_current») g) (ltb (100 * settings .«start_current») g)
+    go true = above (95 * settings .«start_current») g (omega arith)
+    go false = refl
 
-off-idle : (settings : Settings) (run g : ℕ) → g < noSample → leb (leastSample (offPlan settings) run) g ≡ false
+off-idle : (settings : Settings) (run g : ℕ) → g ≤ topSample → ltb (idleTo (offPlan settings) run) g ≡ false
 off-idle settings run g h = go (ltb 0 run)
   where
-    go : (ran : Bool) → leb (cond ran noSample noSample) g ≡ false
-    go true = lt-leb noSample g h
-    go false = lt-leb noSample g h
+    go : (ran : Bool) → ltb (cond ran topSample topSample) g ≡ false
+    go true = le-ltb topSample g h
+    go false = le-ltb topSample g h
 
 -- ---- a started tick
 
@@ -129,37 +133,50 @@ off-stays settings loss state v =
 abbrev tickBy : Kind → Bool → Settings → PhaseState → ℕ → Turned
 tickBy kind b settings state g =
     record {
-      course = courseOf settings (nextBy kind b settings g state) g;
+      course = courseBy (planBy kind settings) settings (nextBy kind b settings g state) g;
       start = startBy kind b;
       trip = tripBy kind b settings (nextBy kind b settings g state);
+    }
+
+abbrev startedTurn : Plan → Settings → ℕ → PhaseState → (trip runs : Bool) → Turned
+startedTurn plan settings g after trip runs =
+    record {
+      course = record { state = after; memo = memoOf settings g; «idle_to» = cond runs (plan .«stays_above») (plan .«starts_above») };
+      start = true;
+      trip = trip;
     }
 
 on-turns : (timing : Timing) (b : Bool) (settings : Settings) (state : PhaseState) (g : ℕ) → kindOf (settings .operation) ≡ On timing → InLimits settings state → validFor (On timing) state ≡ true → turnBy (onPlan timing settings) (memoOf settings g) b state ≡ tickBy (On timing) b settings state g
 unfolding memoOf
 on-turns timing true settings state g kind limits v =
+    let plan : Plan = onPlan timing settings in
     let after : PhaseState = afterStarted timing settings g state in
-    ap (λ (x : PhaseState). record { course = courseOf settings x g; start = true; trip = dueBy (onPlan timing settings) x }) (after-started timing settings g state (limits .run))
-    ∙ ap (λ (t : Bool). record { course = courseOf settings after g; start = true; trip = t }) (due-now timing settings after (omega arith))
-on-turns timing false settings state g kind limits v = rw (after-idle timing settings g state kind (limits .drop) v)
+    let runs : true ≡ ltb 0 (after .run) = sym (lt-ltb 0 (after .run) (omega arith)) in
+    ap (λ (x : PhaseState). startedTurn plan settings g x (dueBy plan x) true) (after-started timing settings g state (limits .run))
+    ∙ ap (λ (t : Bool). startedTurn plan settings g after t true) (due-now timing settings after (omega arith))
+    ∙ ap (λ (b : Bool). startedTurn plan settings g after (eqb (settings .«start_only») 0 && due timing settings after) b) runs
+on-turns timing false settings state g kind limits v =
+    rw (after-idle timing settings g state kind (limits .drop) v)
 
-by-kind : (kind : Kind) (settings : Settings) (state : PhaseState) (g : ℕ) → kindOf (settings .operation) ≡ kind → g < noSample → InLimits settings state → validFor kind state ≡ true → turnBy (planBy kind settings) (memoOf settings g) (leb (leastSample (planBy kind settings) (state .run)) g) state ≡ tickBy kind (started settings state g) settings state g
-by-kind Off settings state g kind h limits v =
+by-kind : (kind : Kind) (settings : Settings) (state : PhaseState) (g : ℕ) → kindOf (settings .operation) ≡ kind → 0 < settings .«start_current» → g ≤ topSample → InLimits settings state → validFor kind state ≡ true → turnBy (planBy kind settings) (memoOf settings g) (ltb (idleTo (planBy kind settings) (state .run)) g) state ≡ tickBy kind (started settings state g) settings state g
+by-kind Off settings state g kind pos h limits v =
     rw (off-idle settings (state .run) g h, off-stays settings (memoOf settings g .loss) state v)
-by-kind (On timing) settings state g kind h limits v =
-    rw (on-started timing settings state g) (on-turns timing (started settings state g) settings state g kind limits v)
+by-kind (On timing) settings state g kind pos h limits v =
+    rw (on-started timing settings state g pos) (on-turns timing (started settings state g) settings state g kind limits v)
 
-plan-turns : (settings : Settings) (state : PhaseState) (g : ℕ) → g < noSample → valid settings state ≡ true → turnBy (planOf settings) (memoOf settings g) (leb (leastSample (planOf settings) (state .run)) g) state ≡ turnedOf settings state g
+plan-turns : (settings : Settings) (state : PhaseState) (g : ℕ) → 0 < settings .«start_current» → g ≤ topSample → valid settings state ≡ true → turnBy (planOf settings) (memoOf settings g) (ltb (idleTo (planOf settings) (state .run)) g) state ≡ turnedOf settings state g
 unfolding planOf nextState phaseStart phaseTrip
-plan-turns settings state g h v =
-    by-kind (kindOf (settings .operation)) settings state g refl h (valid-in-limits settings state v) (valid-kind settings state v)
+plan-turns settings state g pos h v =
+    by-kind (kindOf (settings .operation)) settings state g refl pos h (valid-in-limits settings state v) (valid-kind settings state v)
 
 -- the branch that the code takes
-pub turned-by : (plan : Plan) (state : PhaseState) (memo : Memo) (b : Bool) (g : ℕ) → plan ≡ planOf (plan .settings) → g < noSample → valid (plan .settings) state ≡ true → memo ≡ memoOf (plan .settings) g → leb (leastSample plan (state .run)) g ≡ b → turnBy plan memo b state ≡ turnedOf (plan .settings) state g
-turned-by plan state memo b g planned h v m e =
-    ap (λ (x : Bool). turnBy plan memo x state) (sym e)
-    ∙ ap (λ (x : Memo). turnBy plan x (leb (leastSample plan (state .run)) g) state) m
-    ∙ ap (λ (p : Plan). turnBy p (memoOf (plan .settings) g) (leb (leastSample p (state .run)) g) state) planned
-    ∙ plan-turns (plan .settings) state g h v
+pub turned-by : (plan : Plan) (course : Course) (memo : Memo) (b : Bool) (g : ℕ) → TurnReady plan course → g ≤ topSample → memo ≡ memoOf (plan .settings) g → ltb (course .«idle_to») g ≡ b → turnBy plan memo b (course .state) ≡ turnedOf (plan .settings) (course .state) g
+turned-by plan course memo b g ready h m e =
+    let state : PhaseState = course .state in
+    ap (λ (x : Bool). turnBy plan memo x state) (sym e ∙ ap (λ (x : ℕ). ltb x g) (ready .remembers .idle))
+    ∙ ap (λ (x : Memo). turnBy plan x (ltb (idleTo (planOf (plan .settings)) (state .run)) g) state) m
+    ∙ ap (λ (p : Plan). turnBy p (memoOf (plan .settings) g) (ltb (idleTo (planOf (plan .settings)) (state .run)) g) state) (ready .planned)
+    ∙ plan-turns (plan .settings) state g (omega (arith, ready .range .start-low)) h (ready .valid)
 
 -- ---- how large the numbers of a tick are
 

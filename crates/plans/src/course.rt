@@ -5,18 +5,20 @@ ghost use mathlib.Core.Bool.{cond};
 ghost use lib.Dec.{leb};
 ghost use Rattle.phase.specs.State.{runLimit};
 ghost use Rattle.phase.specs.device.Ranges.{InRange};
-ghost use Rattle.plans.specs.device.Course.{courseOf, countTo, leastSample, afterStartedBy, afterIdleBy, dueBy};
+ghost use Rattle.plans.specs.device.Course.{courseOf, countTo, idleTo, afterStartedBy, afterIdleBy, dueBy};
 ghost use Rattle.plans.specs.device.Course.{turnedOf, TurnReady};
+ghost use Rattle.plans.specs.device.Plan.{planOf};
 use crate::memo::Memo;
 use crate::memo::memo_at_setting;
 use crate::memo::next_memo;
 use crate::plan::Plan;
 use phase::PhaseState;
-use phase::Settings;
 
+// `idle_to` is the largest sample with which the next tick is idle.
 pub struct Course {
     pub state: PhaseState,
     pub memo: Memo,
+    pub idle_to: u32,
 }
 
 // The course after a tick, and the tick's outputs.
@@ -26,13 +28,29 @@ pub struct Turned {
     pub trip: bool,
 }
 
-// A course that begins at a state.
-pub fn course_from(settings: Settings, state: PhaseState) -> Course
-    requires { ⌜ InRange settings ⌝ }
-    ensures { λ r. ⌜ r ≡ courseOf settings state (100 * settings .«start_current») ⌝ }
+// The largest sample that a tick is idle with, after such a run.
+fn idle_to(plan: Plan, run: u32) -> u32
+    ensures { λ r. ⌜ r ≡ idleTo plan run ⌝ }
 {
-    let memo = memo_at_setting(settings);
-    Course { state, memo }
+    if 0 < run {
+        plan.stays_above
+    } else {
+        plan.starts_above
+    }
+}
+
+// A course that begins at a state.
+pub fn course_from(plan: Plan, state: PhaseState) -> Course
+    requires { ⌜ InRange (plan .settings) × (plan ≡ planOf (plan .settings)) ⌝ }
+    ensures { λ r. ⌜ r ≡ courseOf (plan .settings) state (100 * plan .settings .«start_current») ⌝ }
+{
+    let memo = memo_at_setting(plan.settings);
+    let idle_to = idle_to(plan, state.run);
+    Course {
+        state,
+        memo,
+        idle_to,
+    }
 }
 
 // A count that goes up by 1 and stops at its limit.
@@ -41,17 +59,6 @@ fn count_to(limit: u32, count: u32) -> u32
     ensures { λ r. ⌜ r ≡ countTo limit count ⌝ }
 {
     if count < limit { count + 1 } else { count }
-}
-
-// The least sample that a tick is started with, after such a run.
-fn least_sample(plan: Plan, run: u32) -> u64
-    ensures { λ r. ⌜ r ≡ leastSample plan run ⌝ }
-{
-    if 0 < run {
-        plan.stays_from
-    } else {
-        plan.starts_from
-    }
 }
 
 fn filled(sum: u64, gain: u64, level: u64) -> u64
@@ -107,10 +114,14 @@ pub fn turn(plan: Plan, course: Course, sample: u32) -> Turned
 {
     let state = course.state;
     let memo = next_memo(plan.settings, course.memo, sample);
-    if least_sample(plan, state.run) <= sample as u64 {
+    if course.idle_to < sample {
         let after = after_started(plan, memo.gain, state);
         let trip = is_due(plan, after);
-        let course = Course { state: after, memo };
+        let course = Course {
+            state: after,
+            memo,
+            idle_to: plan.stays_above,
+        };
         Turned {
             course,
             start: true,
@@ -118,7 +129,11 @@ pub fn turn(plan: Plan, course: Course, sample: u32) -> Turned
         }
     } else {
         let after = after_idle(plan, memo.loss, state);
-        let course = Course { state: after, memo };
+        let course = Course {
+            state: after,
+            memo,
+            idle_to: plan.starts_above,
+        };
         Turned {
             course,
             start: false,

@@ -2,6 +2,7 @@
 ghost use mathlib.Core.Path.{_≡_};
 ghost use Rattle.phase.specs.device.Ranges.{InRange};
 ghost use Rattle.plans.specs.device.Plan.{levelOf, delayOf, resetBy, resetOf, onPlan, offPlan, planOf};
+use crate::memo::TOP_SAMPLE;
 use phase::PhaseState;
 use phase::Settings;
 use phase::operation::Kind;
@@ -10,18 +11,15 @@ use phase::operation::Timing;
 use phase::operation::kind_of;
 use phase::settings::trip_level;
 
-// No sample is so large.
-const NO_SAMPLE: u64 = 4294967296;
-
 // No count gets so far.
 const NO_COUNT: u32 = PhaseState::RUN_LIMIT + 1;
 
-// The least sample that starts a phase that does not run, and the least that keeps one started that runs; the sum and the run
-// that a trip takes; the drop that clears the sum, and where drop stops.
+// The largest sample that does not start a phase that does not run, and the largest that does not keep one started that runs; the
+// sum and the run that a trip takes; the drop that clears the sum, and where drop stops.
 pub struct Plan {
     pub settings: Settings,
-    pub starts_from: u64,
-    pub stays_from: u64,
+    pub starts_above: u32,
+    pub stays_above: u32,
     pub level: u64,
     pub delay: u32,
     pub reset: u32,
@@ -73,14 +71,13 @@ fn on_plan(timing: Timing, settings: Settings) -> Plan
     requires { ⌜ InRange settings ⌝ }
     ensures { λ r. ⌜ r ≡ onPlan timing settings ⌝ }
 {
-    let start_current = settings.start_current as u64;
     let level = level_of(timing, settings);
     let delay = delay_of(timing, settings);
     let reset = reset_of(timing, settings);
     Plan {
         settings,
-        starts_from: 100 * start_current + 1,
-        stays_from: 95 * start_current,
+        starts_above: 100 * settings.start_current,
+        stays_above: 95 * settings.start_current - 1,
         level,
         delay,
         reset,
@@ -94,8 +91,8 @@ fn off_plan(settings: Settings) -> Plan
 {
     Plan {
         settings,
-        starts_from: NO_SAMPLE,
-        stays_from: NO_SAMPLE,
+        starts_above: TOP_SAMPLE,
+        stays_above: TOP_SAMPLE,
         level: 0,
         delay: NO_COUNT,
         reset: NO_COUNT,

@@ -6,20 +6,20 @@ use mathlib.Core.List.{List, [], _∷_}
 use Prim.Native.Nat.{ℕ, suc, _+_, _*_, _/_, _%_}
 use native.Mathlib.Omega.{arith}
 use Rattle.relay.specs.Outputs.{bit, general, outputByte}
-use Rattle.relay.proofs.OutputLaws.{bit-small, output-bits}
+use Rattle.relay.proofs.OutputLaws.{bit-at-most, output-bits}
 use Rattle.records.specs.Status.{bitsOf, statusOf}
 
 -- a bit, and then those of the number that the others are
 bits-on : (n h : ℕ) (on : Bool) → bitsOf (suc n) (bit on 1 + 2 * h) ≡ bit on 1 ∷ bitsOf n h
 bits-on n h on =
-    let k = bit-small on in
+    let k = bit-at-most on 1 in
     let low : (bit on 1 + 2 * h) % 2 ≡ bit on 1 = omega arith in
     let rest : (bit on 1 + 2 * h) / 2 ≡ h = omega arith in
     rw (low, rest)
 
 bits-last : (on : Bool) → bitsOf 1 (bit on 1) ≡ bit on 1 ∷ []
 bits-last on =
-    let k = bit-small on in
+    let k = bit-at-most on 1 in
     let low : bit on 1 % 2 ≡ bit on 1 = omega arith in
     rw low
 

@@ -1,10 +1,10 @@
 // The three phases on their way from tick to tick by a plan.
 ghost use mathlib.Core.Path.{_≡_};
 ghost use Rattle.phase.specs.device.Ranges.{InRange};
+ghost use Rattle.plans.specs.device.Plan.{planOf};
 ghost use Rattle.relay.specs.device.Step.{StepReady, coursesFrom, relayOf, relayStep};
 use crate::outputs::output_byte;
 use crate::state::RelayState;
-use phase::Settings;
 use plans::course::Course;
 use plans::course::course_from;
 use plans::course::turn;
@@ -21,13 +21,13 @@ pub struct Stepped {
     pub outputs: u8,
 }
 
-pub fn courses_from(settings: Settings, relay: RelayState) -> Courses
-    requires { ⌜ InRange settings ⌝ }
-    ensures { λ r. ⌜ r ≡ coursesFrom settings relay ⌝ }
+pub fn courses_from(plan: Plan, relay: RelayState) -> Courses
+    requires { ⌜ InRange (plan .settings) × (plan ≡ planOf (plan .settings)) ⌝ }
+    ensures { λ r. ⌜ r ≡ coursesFrom (plan .settings) relay ⌝ }
 {
-    let l1 = course_from(settings, relay.phases[0]);
-    let l2 = course_from(settings, relay.phases[1]);
-    let l3 = course_from(settings, relay.phases[2]);
+    let l1 = course_from(plan, relay.phases[0]);
+    let l2 = course_from(plan, relay.phases[1]);
+    let l3 = course_from(plan, relay.phases[2]);
     Courses { l1, l2, l3 }
 }
 

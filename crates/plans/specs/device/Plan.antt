@@ -1,5 +1,5 @@
 -- A device of the code: what the settings come to, by the group of operations. `turned-by` of `proofs/` says what a tick by it is.
-use Prim.Native.Nat.{ℕ, _+_, _*_}
+use Prim.Native.Nat.{ℕ, _+_, _-_, _*_}
 use mathlib.Core.Bool.{cond}
 use lib.Dec.{eqb}
 use Rattle.phase.specs.declared.operation.Kind.{Kind}
@@ -13,10 +13,7 @@ use Rattle.phase.specs.Operation.{kindOf}
 use Rattle.phase.specs.Settings.{tripLevel}
 use Rattle.phase.specs.State.{runLimit}
 use Rattle.plans.specs.declared.plan.Plan.{Plan}
-
--- no sample is so large
-abbrev pub noSample : ℕ
-noSample = 4294967296
+use Rattle.plans.specs.device.Memo.{topSample}
 
 -- no count gets so far
 abbrev pub noCount : ℕ
@@ -45,8 +42,8 @@ abbrev pub onPlan : Timing → Settings → Plan
 onPlan timing settings =
     record {
       settings = settings;
-      «starts_from» = 100 * settings .«start_current» + 1;
-      «stays_from» = 95 * settings .«start_current»;
+      «starts_above» = 100 * settings .«start_current»;
+      «stays_above» = 95 * settings .«start_current» - 1;
       level = levelOf timing settings;
       delay = delayOf timing settings;
       reset = resetOf timing settings;
@@ -57,8 +54,8 @@ abbrev pub offPlan : Settings → Plan
 offPlan settings =
     record {
       settings = settings;
-      «starts_from» = noSample;
-      «stays_from» = noSample;
+      «starts_above» = topSample;
+      «stays_above» = topSample;
       level = 0;
       delay = noCount;
       reset = noCount;

@@ -5,9 +5,7 @@ use mathlib.Core.Path.{_≡_}
 use Rattle.phase.specs.declared.settings.Settings.{Settings}
 use Rattle.phase.specs.device.Ranges.{InRange}
 use Rattle.plans.specs.declared.plan.Plan.{Plan}
-use Rattle.plans.specs.declared.course.Course.{Course}
-use Rattle.plans.specs.device.Course.{courseOf}
-use Rattle.plans.specs.device.Memo.{memoOf}
+use Rattle.plans.specs.device.Course.{courseOf, Remembers}
 use Rattle.plans.specs.device.Plan.{planOf}
 use Rattle.relay.specs.declared.state.RelayState.{RelayState}
 use Rattle.relay.specs.declared.step.Courses.{Courses}
@@ -32,9 +30,6 @@ abbrev pub coursesFrom : Settings → RelayState → Courses
 coursesFrom settings relay =
     let g : ℕ = 100 * settings .«start_current» in
     coursesOf settings relay g g g
-
-abbrev pub Remembers : Settings → Course → Type 0
-Remembers settings course = course .memo ≡ memoOf settings (course .memo .sample)
 
 -- what a step goes by
 pub record StepReady (plan : Plan) (courses : Courses) : Type 0 where

@@ -1,20 +1,21 @@
 -- `curve::gain::gain_of` meets its contract.
 -- Assumes nothing.
-use Prim.Native.Nat.{_/_, _^_}
-use mathlib.Core.Path.{_∙_, ap}
+use native.Mathlib.Omega.{arith}
+use mathlib.Core.Path.{sym}
 use borrow.Author.Needs.{needs}
-use Rattle.curve.proofs.GainLaws.{gain-by-time}
+use borrow.Author.Tests.{lt-ltb}
+use Rattle.curve.proofs.GainLaws.{gain-zero-to-100}
 use Rattle.curve.proofs.gain.gain_of.Statement.{statement}
 use Rattle.curve.proofs.gain.gain_of.Tie as tie
 
-operate-time-requires : tie.Need-operate-time-requires
-operate-time-requires c κs = search needs
-
-quotient-requires : tie.Need-quotient-requires
-quotient-requires c κs = search needs
-
 returns : tie.Need-returns
-returns c = c .quotient .ensures ∙ ap (λ t. 10 ^ 14 / t) (c .before .operate-time .ensures) ∙ gain-by-time _ _
+returns c = sym (gain-zero-to-100 _ _ (c .if1 .taken))
+
+change-of-requires : tie.Need-change-of-requires
+change-of-requires c κs = search needs
+
+returns-2 : tie.Need-returns-2
+returns-2 c = rw (lt-ltb 100 (c .before .before .args .ratio) (omega (arith, c .before .if1 .left))) at (c .change-of .ensures)
 
 pub gain-of-spec : {M : Type 1} → statement M
-gain-of-spec = tie.close (tie.spec operate-time-requires quotient-requires returns)
+gain-of-spec = tie.close (tie.spec returns change-of-requires returns-2)

@@ -1,20 +1,21 @@
 -- `curve::gain::loss_of` meets its contract.
 -- Assumes nothing.
-use Prim.Native.Nat.{_/_, _^_}
-use mathlib.Core.Path.{_∙_, ap}
+use native.Mathlib.Omega.{arith}
+use mathlib.Core.Path.{sym}
 use borrow.Author.Needs.{needs}
-use Rattle.curve.proofs.GainLaws.{loss-by-time}
+use borrow.Author.Tests.{le-ltb}
+use Rattle.curve.proofs.GainLaws.{loss-zero-from-100}
 use Rattle.curve.proofs.gain.loss_of.Statement.{statement}
 use Rattle.curve.proofs.gain.loss_of.Tie as tie
 
-reset-time-requires : tie.Need-reset-time-requires
-reset-time-requires c κs = search needs
-
-quotient-requires : tie.Need-quotient-requires
-quotient-requires c κs = search needs
-
 returns : tie.Need-returns
-returns c = c .quotient .ensures ∙ ap (λ t. 10 ^ 14 / t) (c .before .reset-time .ensures) ∙ loss-by-time _ _
+returns c = sym (loss-zero-from-100 _ _ (c .if1 .taken))
+
+change-of-requires : tie.Need-change-of-requires
+change-of-requires c κs = search needs
+
+returns-2 : tie.Need-returns-2
+returns-2 c = rw (le-ltb 100 (c .before .before .args .ratio) (omega (arith, c .before .if1 .left))) at (c .change-of .ensures)
 
 pub loss-of-spec : {M : Type 1} → statement M
-loss-of-spec = tie.close (tie.spec reset-time-requires quotient-requires returns)
+loss-of-spec = tie.close (tie.spec returns change-of-requires returns-2)

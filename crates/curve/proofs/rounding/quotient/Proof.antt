@@ -5,8 +5,8 @@ use borrow.Author.Needs.{needs}
 use Rattle.curve.proofs.rounding.quotient.Statement.{statement}
 use Rattle.curve.proofs.rounding.quotient.Tie as tie
 
-div-result : tie.Need-div-result
-div-result c = search needs
+shift-and-subtract-requires : tie.Need-shift-and-subtract-requires
+shift-and-subtract-requires c κs = search needs
 
 returns : tie.Need-returns
 returns c = rw (c .if1 .taken, div-zero)
@@ -15,4 +15,4 @@ returns-2 : tie.Need-returns-2
 returns-2 c = search needs
 
 pub quotient-spec : {M : Type 1} → statement M
-quotient-spec = tie.close (tie.spec div-result returns returns-2)
+quotient-spec = tie.close (tie.spec shift-and-subtract-requires returns returns-2)

@@ -22,7 +22,7 @@ plan-of-requires : tie.Need-plan-of-requires
 plan-of-requires c κs = is-so c .range
 
 way-from-requires : tie.Need-way-from-requires
-way-from-requires c κs = is-so (c .before) .range
+way-from-requires c κs = (is-so (c .before) .range, c .plan-of .ensures)
 
 run-rows-requires : tie.Need-run-rows-requires
 run-rows-requires c κs =

@@ -1,0 +1,27 @@
+-- The samples of a ratio, for the layers above.
+-- Assumes nothing.
+use Prim.Native.Nat.{ℕ, _+_, _*_, _/_, _≤_, _<_}
+use native.Mathlib.Nat.{div-eq-of-lt-le, div-lt-iff-lt-mul, le-div-iff-mul-le}
+use native.Mathlib.Omega.{arith}
+use mathlib.Core.Path.{_≡_}
+use Rattle.curve.specs.Ratio.{ratioOf}
+
+pub ratio-at-most : (g s : ℕ) → ratioOf g s ≤ 2000
+unfolding ratioOf
+ratio-at-most g s = omega arith
+
+pub ratio-below : (g s m : ℕ) → 0 < s → g < (m + 1) * s → ratioOf g s ≤ m
+unfolding ratioOf
+ratio-below g s m pos high = omega (arith, div-lt-iff-lt-mul pos .1 high)
+
+-- below the cap a ratio m has the samples from m x s to the last before (m + 1) x s
+pub ratio-between : (g s m : ℕ) → m ≤ 2000 → m * s ≤ g → g < (m + 1) * s → ratioOf g s ≡ m
+unfolding ratioOf
+ratio-between g s m cap low high =
+    let quotient : g / s ≡ m = div-eq-of-lt-le s low high in
+    omega arith
+
+-- and the cap those from 2000 x s on
+pub ratio-from-cap : (g s : ℕ) → 0 < s → 2000 * s ≤ g → ratioOf g s ≡ 2000
+unfolding ratioOf
+ratio-from-cap g s pos low = omega (arith, le-div-iff-mul-le pos .1 low)
