@@ -110,8 +110,8 @@ static int check(void)
         size_t below = stack_below_batch();
         deepest = below > deepest ? below : deepest;
     }
-    printf("stack below oc_batch: %zu bytes (aim: under 1024)%s\n", deepest,
-           deepest < 1024 ? "" : "  MISSED");
+    printf("stack below oc_batch: %zu bytes (aim: under 600)%s\n", deepest,
+           deepest < 600 ? "" : "  MISSED");
     return good ? 0 : 1;
 }
 

@@ -12,10 +12,11 @@
  * The archive is for x86-64.
  * Stack needed: under 600 bytes, whatever the operation. `host/run --count` measures it.
  * It wants no symbol from elsewhere, memcpy neither.
- * It divides no 64-bit number: gains and losses are worked out by shift and
- * subtract, some 420 instructions for one of them. A batch works one out where a
- * sample of a phase has another ratio to the start current than the sample
- * before; on definite time never, and on IEC curves only above the setting.
+ * It divides no 64-bit number (the ratio of a sample is a 32-bit division):
+ * gains and losses are worked out by shift and subtract, some 420 instructions
+ * for one of them. A batch works one out where a sample of a phase has another
+ * ratio to the start current than the sample before, and for the first of the
+ * batch; on definite time never, and on IEC curves only above the setting.
  */
 #ifndef OVERCURRENT_H
 #define OVERCURRENT_H

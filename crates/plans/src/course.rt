@@ -14,7 +14,6 @@ use crate::memo::next_memo;
 use crate::plan::Plan;
 use phase::PhaseState;
 
-// `idle_to` is the largest sample with which the next tick is idle.
 pub struct Course {
     pub state: PhaseState,
     pub memo: Memo,
@@ -28,7 +27,7 @@ pub struct Turned {
     pub trip: bool,
 }
 
-// The largest sample that a tick is idle with, after such a run.
+// The largest sample that the next tick is idle with, after such a run.
 fn idle_to(plan: Plan, run: u32) -> u32
     ensures { λ r. ⌜ r ≡ idleTo plan run ⌝ }
 {

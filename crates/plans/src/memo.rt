@@ -15,9 +15,10 @@ const FIRST_ANSI: u32 = 6;
 // The highest ratio without a gain.
 const NO_GAIN: u32 = 100;
 
-// The ratio that every higher one is taken for.
+// The highest ratio that `ratio_of` gives.
 const CAP_RATIO: u32 = 2000;
 
+// No sample is larger.
 pub(crate) const TOP_SAMPLE: u32 = 4294967295;
 
 // The gain and the loss of every sample from `from` to `to`.
@@ -28,7 +29,8 @@ pub struct Memo {
     pub loss: u64,
 }
 
-// The samples of a ratio follow each other. Without a curve all samples do the same, and on an IEC curve all those without a gain.
+// What is remembered at a ratio, which is as many samples wide as the start current. Without a curve all samples do the same, and on
+// an IEC curve all those without a gain.
 fn memo_at(settings: Settings, ratio: u32, gain: u64, loss: u64) -> Memo
     requires { ⌜ InRange settings × (ratio ≤ capRatio) ⌝ }
     ensures { λ r. ⌜ r ≡ memoAt settings ratio gain loss ⌝ }

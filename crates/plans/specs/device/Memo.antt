@@ -18,15 +18,16 @@ firstAnsi = 6
 abbrev pub noGain : ℕ
 noGain = 100
 
--- the ratio that every higher one is taken for
+-- the highest ratio that there is
 abbrev pub capRatio : ℕ
 capRatio = 2000
 
+-- no sample is larger
 abbrev pub topSample : ℕ
 topSample = 4294967295
 
 -- the ratio m has the samples from m x s to the last before (m + 1) x s; at the cap there is no last one. Without a curve the ratio
--- does not matter, nor does it on an IEC curve where there is no gain
+-- does not matter, nor does it on an IEC curve where there is no gain: there a sum stands
 abbrev pub fromBy : (isCurve stands : Bool) → ℕ → ℕ → ℕ
 fromBy false stands m s = 0
 fromBy true true m s = 0

@@ -9,7 +9,7 @@ use Rattle.curve.proofs.gain.loss_of.Statement.{statement}
 use Rattle.curve.proofs.gain.loss_of.Tie as tie
 
 returns : tie.Need-returns
-returns c = sym (loss-zero-from-100 _ _ (c .if1 .taken))
+returns c = let a = c .before .args in sym (loss-zero-from-100 (a .operation) (a .ratio) (omega (arith, c .if1 .taken)))
 
 change-of-requires : tie.Need-change-of-requires
 change-of-requires c κs = search needs
