@@ -14,8 +14,8 @@ use phase::settings::trip_level;
 // No count gets so far.
 const NO_COUNT: u32 = PhaseState::RUN_LIMIT + 1;
 
-// The largest sample that does not start a phase that does not run, and the largest that does not keep one started that runs; the
-// sum and the run that a trip takes; the drop that clears the sum, and where drop stops.
+// The largest samples that leave a phase idle, one that does not run and one that runs; the sum and the run that a trip takes; the
+// drop that clears the sum, and where drop stops.
 pub struct Plan {
     pub settings: Settings,
     pub starts_above: u32,

@@ -3,6 +3,7 @@
 use Prim.Native.Nat.{suc}
 use native.Mathlib.Nat.{div-eq-of-lt}
 use native.Mathlib.Omega.{arith}
+use lib.Count.{leadingZeros}
 use borrow.Author.Needs.{needs}
 use Rattle.curve.proofs.LongDivision.{Dividing, LinedUp, lined-up, round-set, round-clear, round-fits, divided}
 use Rattle.curve.proofs.rounding.shift_and_subtract.Statement.{statement}
@@ -18,7 +19,7 @@ returns : tie.Need-returns Inv-loop μ-loop
 returns c = rw (div-eq-of-lt (c .if1 .taken))
 
 -- a number that is not below the divisor
-lined : (c : tie.Else1 Inv-loop μ-loop) → LinedUp (c .before .args .n) (c .before .args .d)
+lined : (c : tie.Else1 Inv-loop μ-loop) → LinedUp (c .before .args .n) (c .before .args .d) (leadingZeros 64 (c .before .args .n)) (leadingZeros 64 (c .before .args .d))
 lined c = lined-up _ _ (c .before .pre) (omega arith) (c .before .fits .n .fits)
 
 sub-places : tie.Need-sub-places Inv-loop μ-loop
@@ -51,7 +52,7 @@ add-q : tie.Need-add-q Inv-loop μ-loop
 add-q c =
     let l = c .before .before .loop in
     let positive = c .before .before .before .before .pre in
-    omega (arith, round-fits _ _ (l .part) (l .bit) (l .rest) (l .q) (l .inv) positive (omega arith) (omega arith))
+    omega (arith, round-fits _ _ (l .part) (l .bit) (l .rest) (l .q) (l .inv) (omega arith) positive (omega arith))
 
 loop-less-2 : tie.Need-loop-less-2 Inv-loop μ-loop
 loop-less-2 c = search needs
