@@ -4,13 +4,15 @@
  *
  * Definite time, 200 % of rated current, 40 ms: L1 is just above the setting
  * for 40 ticks, at 95 % of it for one more and then below that, so it starts at
- * tick 1, trips at tick 40, stays so at tick 41 and is off again at tick 42.
+ * tick 1, trips at tick 40, stays so at tick 41 and is off again at tick 42. At
+ * tick 43 it is above the setting again and trips at once: a dip that is shorter
+ * than the reset time, 60 ms, keeps the run.
  */
 #include "overcurrent.h"
 
 #include <stdio.h>
 
-enum { TICKS = 42 };
+enum { TICKS = 43 };
 
 static uint8_t l1[4 * TICKS], l2[4 * TICKS], l3[4 * TICKS];
 static uint8_t block[TICKS];
@@ -44,11 +46,12 @@ static void print_output(size_t tick)
 static void print_states(void)
 {
     for (size_t phase = 0; phase < 3; phase++) {
-        const uint8_t *state = states + 16 * phase;
-        printf("L%zu: sum %llu, run %llu, drop %llu\n", phase + 1,
-               (unsigned long long)get_number(state, 8),
-               (unsigned long long)get_number(state + 8, 4),
-               (unsigned long long)get_number(state + 12, 4));
+        const uint8_t *state = states + OC_STATE_LENGTH * phase;
+        printf("L%zu: sum %llu, run %llu, drop %llu, started %llu\n", phase + 1,
+               (unsigned long long)get_number(state + OC_SUM_AT, 8),
+               (unsigned long long)get_number(state + OC_RUN_AT, 4),
+               (unsigned long long)get_number(state + OC_DROP_AT, 4),
+               (unsigned long long)get_number(state + OC_STARTED_AT, 4));
     }
 }
 
@@ -65,7 +68,7 @@ int main(void)
     }
 
     for (size_t tick = 0; tick < TICKS; tick++)
-        put_current(l1, tick, tick < 40 ? 20001 : tick == 40 ? 19000 : 18999);
+        put_current(l1, tick, tick == 40 ? 19000 : tick == 41 ? 18999 : 20001);
 
     refusal = oc_batch(operation, start_current, time_multiplier, minimum_delay, definite_delay,
                        reset_time, start_only, l1, sizeof l1, l2, sizeof l2, l3, sizeof l3,
@@ -79,6 +82,7 @@ int main(void)
     print_output(40);
     print_output(41);
     print_output(42);
+    print_output(43);
     print_states();
     return 0;
 }

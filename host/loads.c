@@ -28,7 +28,7 @@ static struct {
     const struct load *load;
     uint8_t samples[3][4 * TICKS];
     uint8_t block[TICKS];
-    uint8_t states[48];
+    uint8_t states[OC_STATES_LENGTH];
 } input;
 
 static void put_number(uint8_t *bytes, uint64_t value, int count)
@@ -77,10 +77,11 @@ static void fill_states(uint32_t operation, const struct load *load)
 {
     uint64_t level = load->time_multiplier * (uint64_t)1000000000;
     for (int phase = 0; phase < 3; phase++) {
-        uint8_t *state = input.states + 16 * phase;
-        put_number(state, load->full && operation > OC_DEFINITE ? level : 0, 8);
-        put_number(state + 8, load->run, 4);
-        put_number(state + 12, 0, 4);
+        uint8_t *state = input.states + OC_STATE_LENGTH * phase;
+        put_number(state + OC_SUM_AT, load->full && operation > OC_DEFINITE ? level : 0, 8);
+        put_number(state + OC_RUN_AT, load->run, 4);
+        put_number(state + OC_DROP_AT, 0, 4);
+        put_number(state + OC_STARTED_AT, load->run > 0, 4);
     }
 }
 

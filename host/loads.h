@@ -5,6 +5,8 @@
 #ifndef LOADS_H
 #define LOADS_H
 
+#include "overcurrent.h"
+
 #include <stdbool.h>
 #include <stddef.h>
 #include <stdint.h>
@@ -22,7 +24,7 @@ struct load {
     uint32_t time_multiplier;
     uint32_t definite_delay;
     bool full; /* the sums are at the level, where the operation has sums */
-    uint32_t run;
+    uint32_t run; /* of phases that are started, where it is above 0 */
 };
 
 extern const struct load idle, counting, tripping, mixed, wandering;
@@ -35,7 +37,7 @@ typedef uint32_t batch_call(uint32_t, uint32_t, uint32_t, uint32_t, uint32_t, ui
 struct side {
     batch_call *call;
     uint8_t out[TICKS];
-    uint8_t states[48];
+    uint8_t states[OC_STATES_LENGTH];
 };
 
 extern struct side archive, plain;

@@ -67,18 +67,23 @@ enum oc_refusal {
     OC_BAD_START_ONLY = 7,      /* not 0 or 1 */
 
     /*
-     * `states` has its 48 bytes and one of the three states is not valid under
+     * `states` has its 60 bytes and one of the three states is not valid under
      * these settings: the sum is above time_multiplier x 10^9; run or drop is
-     * above 60000; run and drop are both above 0; the operation is Definite
-     * and the sum is not 0; the operation is Off and anything is not 0.
-     * States kept from before a change of settings may be refused by this
+     * above 60000; started is not 0 or 1; or, by the operation,
+     *   Off       anything is not 0;
+     *   Definite  the sum is not 0; or started is 1 where run is 0 or drop is not;
+     *   a curve   run and drop are both above 0; or started is 1 where run is 0,
+     *             or 0 where run is not.
+     * On Definite a phase that is not started may have any run and drop to
+     * 60000. States kept from before a change of settings may be refused by this
      * number; they are never cleared silently.
      */
     OC_BAD_STATE = 8,
 
     /*
      * Lengths do not agree: l1_len, l2_len or l3_len is not 4 x block_len, or
-     * out_len is not block_len, or states_len is not 48.
+     * out_len is not block_len, or states_len is not 60. States of 48 bytes,
+     * which have no field for started, are refused by this number.
      */
     OC_BAD_LENGTH = 10,
 
@@ -91,7 +96,10 @@ enum oc_refusal {
  *
  * Unless the operation is Off, a phase starts at a current above
  * 100 x start_current and stays started until one is below 95 x start_current.
- * It counts as started on its last tick exactly if `run` in its state is above 0.
+ * Whether it was started on its last tick, `started` in its state tells. `run`
+ * does not: on Definite an idle phase keeps its run while drop is below
+ * reset_time, and goes on from it where it starts again. On a curve the first
+ * idle tick clears the run.
  */
 enum oc_output {
     OC_START_L1 = 1,
@@ -104,7 +112,16 @@ enum oc_output {
     OC_GENERAL_TRIP = 128  /* any phase tripped, and the tick's block byte is 0 */
 };
 
-#define OC_STATES_LENGTH 48    /* bytes */
+/* Where a phase's state has its parts, each little-endian. */
+enum oc_place {
+    OC_SUM_AT = 0,      /* 8 bytes */
+    OC_RUN_AT = 8,      /* 4 bytes: ticks running, to 60000 */
+    OC_DROP_AT = 12,    /* 4 bytes: ticks idle, to 60000 */
+    OC_STARTED_AT = 16  /* 4 bytes: 1 if it was started on its last tick, else 0 */
+};
+
+#define OC_STATE_LENGTH 20     /* bytes, of one phase */
+#define OC_STATES_LENGTH 60    /* bytes, of the three */
 #define OC_LONGEST_BATCH 60000 /* ticks */
 
 /* The refusal number of these settings, 0 when each is in its range. */
@@ -121,8 +138,8 @@ uint32_t oc_check_settings(uint32_t operation, uint32_t start_current, uint32_t 
  *                        0.01 % of rated current; any 32-bit number is a current
  *   block       read     one byte a tick, 0 or 1
  *   out         written  one output byte a tick (enum oc_output)
- *   states      both     48 bytes, 16 for each phase, L1 first:
- *                        sum in 8 bytes, run in 4, drop in 4, each little-endian.
+ *   states      both     60 bytes, 20 for each phase, L1 first: sum in 8 bytes, run in
+ *                        4, drop in 4, started in 4 (enum oc_place).
  *                        All zero is the clear state, to start from.
  *
  * Accepted (0): out holds the output of every tick, and states the states

@@ -26,6 +26,7 @@ struct plain_phase {
     uint64_t sum;
     uint32_t run;
     uint32_t drop;
+    bool started; /* on its last tick */
 };
 
 /* Works out the table of X(m). To be called once, before the first batch or tick. */

@@ -761,16 +761,33 @@ static void row_start(uint32_t n, uint64_t timestamp, bool zeros)
     add_number(timestamp, zeros ? 1 + (int)chance(10) : 1);
 }
 
+static void add_settings(const uint32_t values[7])
+{
+    for (int i = 0; i < 7; i++) {
+        add_number(values[i], 1 + (int)chance(5));
+        add(i < 6 ? "," : "\r\n");
+    }
+}
+
+static void add_row(uint32_t n, const uint32_t g[3], uint32_t block)
+{
+    row_start(n, 1000 * (uint64_t)n, true);
+    for (int i = 0; i < 3; i++) {
+        add(",");
+        add_number(g[i], 1 + (int)chance(7));
+    }
+    add(",");
+    add_number(block, 1);
+    add("\r\n");
+}
+
 /* Currents stay as they are for up to `hold` ticks. */
 static void recording_by_chance(uint32_t operation, uint32_t rows, uint32_t hold)
 {
     uint32_t s = 10 + chance(200);
     uint32_t values[7] = {operation,        s,                5 + chance(20), 40 + chance(60),
                           40 + chance(100), 60 + chance(100), chance(4) == 0};
-    for (int i = 0; i < 7; i++) {
-        add_number(values[i], 1 + (int)chance(5));
-        add(i < 6 ? "," : "\r\n");
-    }
+    add_settings(values);
     uint32_t g[3] = {0, 0, 0}, left = 0, block = 0;
     for (uint32_t n = 1; n <= rows; n++) {
         if (left-- == 0) {
@@ -779,14 +796,7 @@ static void recording_by_chance(uint32_t operation, uint32_t rows, uint32_t hold
             block = chance(4) == 0;
             left = chance(hold);
         }
-        row_start(n, 1000 * (uint64_t)n, true);
-        for (int i = 0; i < 3; i++) {
-            add(",");
-            add_number(g[i], 1 + (int)chance(7));
-        }
-        add(",");
-        add_number(block, 1);
-        add("\r\n");
+        add_row(n, g, block);
     }
 }
 
@@ -807,6 +817,44 @@ static void hurt_by_chance(void)
         for (uint32_t hurts = 1 + chance(3); hurts > 0; hurts--)
             text[chance((uint32_t)used)] = strange[chance(sizeof strange)];
         keep("hurt_by_chance");
+    }
+}
+
+/* What a phase of a pecking fault does: a burst, or a dip, for some ticks more. */
+struct peck {
+    bool burst;
+    uint32_t left;
+};
+
+/* The next current: after the first tick of a burst or a dip some would hold a started phase. */
+static uint32_t next_current(struct peck *peck, uint32_t s, uint32_t reset_time)
+{
+    bool first = peck->left == 0;
+    if (first) {
+        peck->burst = !peck->burst;
+        peck->left = peck->burst ? 1 + chance(60)
+            : chance(3) == 0 ? reset_time - 2 + chance(4) : 1 + chance(reset_time);
+    }
+    peck->left--;
+    if (!first && chance(3) == 0)
+        return 95 * s + chance(5 * s + 1);
+    return peck->burst ? 100 * s + 1 + chance(100 * s) : chance(95 * s);
+}
+
+/* Faults that come and go on definite time, with dips around the reset time. */
+static void pecking_by_chance(void)
+{
+    for (int i = 0; i < 12; i++) {
+        uint32_t s = 10 + chance(200), reset_time = 60 + chance(100), g[3];
+        uint32_t values[7] = {1, s, 5, 40, 40 + chance(300), reset_time, 0};
+        struct peck pecks[3] = {{false, 0}, {false, 0}, {false, 0}};
+        add_settings(values);
+        for (uint32_t n = 1; n <= 3000; n++) {
+            for (int phase = 0; phase < 3; phase++)
+                g[phase] = next_current(&pecks[phase], s, reset_time);
+            add_row(n, g, chance(4) == 0);
+        }
+        keep("pecking");
     }
 }
 
@@ -833,6 +881,7 @@ static void small(const char *into)
     hurt_around_a_portion_end();
     good_by_chance();
     hurt_by_chance();
+    pecking_by_chance();
     if (fclose(known) != 0)
         fail("known");
 }

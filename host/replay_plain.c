@@ -277,7 +277,7 @@ static uint32_t read_row(uint32_t last_number, struct row *row)
 
 /*
  * "the first reason that holds in this order", by document 01's rules from the
- * phase after the tick: by rules 3 and 4 its run is 0 exactly where it is not started.
+ * phase after the tick, whose field tells whether it was started on it.
  */
 static void write_reason(const struct plain_settings *set, const struct plain_phase *phase,
                          uint64_t trip_level, uint8_t block)
@@ -286,7 +286,7 @@ static void write_reason(const struct plain_settings *set, const struct plain_ph
     uint32_t delay = definite ? set->definite_delay : set->minimum_delay;
     if (set->operation == 0)
         printf("operation off");
-    else if (phase->run == 0)
+    else if (!phase->started)
         printf("not started");
     else if (set->start_only == 1)
         printf("start only");
@@ -348,7 +348,7 @@ struct asked {
 static uint32_t replay_rows(const struct plain_settings *set, struct asked asked,
                             uint32_t *rows_done)
 {
-    struct plain_phase phases[3] = {{0, 0, 0}, {0, 0, 0}, {0, 0, 0}};
+    struct plain_phase phases[3] = {{0, 0, 0, false}, {0, 0, 0, false}, {0, 0, 0, false}};
     uint8_t before = 0;
     while (*rows_done < asked.last_row && another_line()) {
         struct row row;

@@ -29,7 +29,7 @@ static const char *const slice_names[SLICES] = {"l1", "l2", "l3", "block", "out"
 
 enum kind {
     WORKED, CHECKED, ENDS, RATIOS, VALIDITY, LENGTHS, BLOCKS, LONG,
-    FAULTS, EMPTY, SHORT, CARRIED, DIPS, KINDS
+    FAULTS, EMPTY, SHORT, CARRIED, DIPS, PECKING, KINDS
 };
 
 static const char *const kind_names[KINDS] = {
@@ -46,6 +46,7 @@ static const char *const kind_names[KINDS] = {
     [SHORT] = "random short batches",
     [CARRIED] = "batches that carry states on",
     [DIPS] = "dips around the reset time and long decays",
+    [PECKING] = "faults that come and go",
 };
 
 enum { LIMIT = 60000, CAPACITY = 4 * (LIMIT + 2), REFUSALS = 16, OPERATIONS = 13 };
@@ -55,7 +56,7 @@ enum { LIMIT = 60000, CAPACITY = 4 * (LIMIT + 2), REFUSALS = 16, OPERATIONS = 13
 static unsigned long tried[KINDS];
 static unsigned long refusals_checked[REFUSALS], refusals_batch[REFUSALS];
 static unsigned long ticks_run[OPERATIONS], starts[OPERATIONS], held[OPERATIONS];
-static unsigned long trips[OPERATIONS], blocked_trips[OPERATIONS];
+static unsigned long trips[OPERATIONS], blocked_trips[OPERATIONS], kept_trips[OPERATIONS];
 static unsigned long differing;
 
 /* ---- Chance: xorshift64*, always from the same seed ---- */
@@ -115,23 +116,36 @@ static void set_current(enum slice phase, size_t tick, uint32_t g)
     put_number(batch.bytes[phase] + 4 * tick, g, 4);
 }
 
-static void set_state(int phase, uint64_t sum, uint32_t run, uint32_t drop)
+static void set_state(int phase, uint64_t sum, uint32_t run, uint32_t drop, uint32_t started)
 {
-    uint8_t *state = batch.bytes[STATES] + 16 * phase;
-    put_number(state, sum, 8);
-    put_number(state + 8, run, 4);
-    put_number(state + 12, drop, 4);
+    uint8_t *state = batch.bytes[STATES] + OC_STATE_LENGTH * phase;
+    put_number(state + OC_SUM_AT, sum, 8);
+    put_number(state + OC_RUN_AT, run, 4);
+    put_number(state + OC_DROP_AT, drop, 4);
+    put_number(state + OC_STARTED_AT, started, 4);
+}
+
+/* Valid whatever the operation, but for Off: idle where it has not run. */
+static void set_running(int phase, uint64_t sum, uint32_t run)
+{
+    set_state(phase, sum, run, 0, run > 0);
+}
+
+/* Invalid whatever the operation: started in a drop, or with a field that is neither 0 nor 1. */
+static void set_invalid(int phase, uint64_t sum, uint32_t run)
+{
+    set_state(phase, sum, run, 1, (uint32_t)between(1, 2));
 }
 
 static void clear_states(void)
 {
     for (int phase = 0; phase < 3; phase++)
-        set_state(phase, 0, 0, 0);
+        set_state(phase, 0, 0, 0, 0);
 }
 
 static uint64_t sum_of(int phase)
 {
-    return get_number(batch.bytes[STATES] + 16 * phase, 8);
+    return get_number(batch.bytes[STATES] + OC_STATE_LENGTH * phase + OC_SUM_AT, 8);
 }
 
 static uint64_t trip_level(void)
@@ -139,11 +153,17 @@ static uint64_t trip_level(void)
     return batch.settings[TIME_MULTIPLIER] * (uint64_t)1000000000;
 }
 
+/* The ticks that a phase must run to trip. */
+static uint32_t trip_delay(void)
+{
+    return batch.settings[batch.settings[OPERATION] == 1 ? DEFINITE_DELAY : MINIMUM_DELAY];
+}
+
 static void set_ticks(size_t ticks)
 {
     batch.length[L1] = batch.length[L2] = batch.length[L3] = 4 * ticks;
     batch.length[BLOCK] = batch.length[OUT] = ticks;
-    batch.length[STATES] = 48;
+    batch.length[STATES] = OC_STATES_LENGTH;
 }
 
 static void set_settings(uint32_t operation, uint32_t s, uint32_t multiplier, uint32_t minimum,
@@ -268,6 +288,24 @@ static bool is_held(size_t tick)
     return false;
 }
 
+/*
+ * How often a phase trips with fewer ticks since its start than a trip takes: it
+ * had kept its run. One that is started from the first tick on is not counted,
+ * since its start may lie before the batch.
+ */
+static unsigned long trips_of_kept_runs(void)
+{
+    unsigned long found = 0;
+    for (enum slice phase = L1; phase <= L3; phase++) {
+        size_t since = LIMIT;
+        for (size_t i = 0; i < batch.length[OUT]; i++) {
+            since = (expected_out[i] >> phase & 1) != 0 ? since + 1 : 0;
+            found += (expected_out[i] >> phase & 8) != 0 && since < trip_delay();
+        }
+    }
+    return found;
+}
+
 static void tally(enum kind kind, uint32_t refusal)
 {
     tried[kind]++;
@@ -276,6 +314,7 @@ static void tally(enum kind kind, uint32_t refusal)
         return;
     uint32_t operation = batch.settings[OPERATION];
     ticks_run[operation] += batch.length[OUT];
+    kept_trips[operation] += kind == WORKED ? 0 : trips_of_kept_runs();
     for (size_t i = 0; i < batch.length[OUT]; i++) {
         starts[operation] += (expected_out[i] & 7) != 0;
         held[operation] += kind != WORKED && is_held(i);
@@ -284,7 +323,8 @@ static void tally(enum kind kind, uint32_t refusal)
     }
 }
 
-static void try_batch(enum kind kind)
+/* Returns the archive's answer. */
+static uint32_t try_batch(enum kind kind)
 {
     const uint32_t *v = batch.settings;
     const size_t *n = batch.length;
@@ -301,12 +341,13 @@ static void try_batch(enum kind kind)
                             pointer_to(OUT), n[OUT], pointer_to(STATES), n[STATES]);
     compare(kind, got, wanted);
     tally(kind, wanted);
+    return got;
 }
 
 /* The states after the batch become those before the next. */
 static void carry_states(void)
 {
-    memcpy(batch.bytes[STATES], expected_states, 48);
+    memcpy(batch.bytes[STATES], expected_states, OC_STATES_LENGTH);
 }
 
 static void try_check(void)
@@ -392,17 +433,21 @@ static uint64_t random_sum(void)
     }
 }
 
+/*
+ * On definite time an idle phase may have any run and any drop, also such as no
+ * ticks leave: a run and no drop, or a run after the reset time.
+ */
 static void random_state(int phase)
 {
     uint32_t operation = batch.settings[OPERATION];
-    uint32_t delay = batch.settings[operation == 1 ? DEFINITE_DELAY : MINIMUM_DELAY];
     uint64_t sum = operation <= 1 ? 0 : random_sum();
+    uint32_t run = random_count(trip_delay()), drop = random_count(batch.settings[RESET_TIME]);
     if (operation == 0)
-        set_state(phase, 0, 0, 0);
+        set_state(phase, 0, 0, 0, 0);
     else if (one_in(2))
-        set_state(phase, sum, random_count(delay), 0);
+        set_running(phase, sum, run);
     else
-        set_state(phase, sum, 0, random_count(batch.settings[RESET_TIME]));
+        set_state(phase, sum, operation == 1 ? run : 0, drop, 0);
 }
 
 static void random_states(void)
@@ -561,6 +606,18 @@ static void try_worked_replay(uint32_t last, uint8_t last_out)
     worked(good, last == 18999 ? "41 rows, 18999 in the last" : "41 rows");
 }
 
+/* The same, and 20001 in row 42: L1 trips at once, since it has kept its run. */
+static void try_worked_restart(void)
+{
+    set_settings(1, 200, 100, 100, 40, 60, 0);
+    quiet_batch(42);
+    constant_current(L1, 42, 20001);
+    set_current(L1, 40, 18999);
+    try_batch(WORKED);
+    worked(lent[OUT][39] == 201 && lent[OUT][40] == 0 && lent[OUT][41] == 201,
+           "42 rows, 18999 in row 41 and 20001 in row 42");
+}
+
 static size_t first_trip(size_t ticks)
 {
     size_t i = 0;
@@ -588,7 +645,7 @@ static void try_worked_reset(void)
     for (size_t ticks = 59; ticks <= 60; ticks++) {
         set_settings(3, 100, 100, 40, 40, 60, 0);
         quiet_batch(ticks);
-        set_state(0, 7407407, 1, 0);
+        set_running(0, 7407407, 1);
         try_batch(WORKED);
         worked(get_number(lent[STATES], 8) == (ticks == 59 ? 7407407 : 0),
                "59 idle ticks keep the sum, the 60th clears it");
@@ -605,7 +662,7 @@ static void try_worked_starts(void)
     try_batch(WORKED);
     worked(lent[OUT][0] == 64 + 4 + 2, "from clear, started exactly when g is greater than 100 x s");
     /* T = 135000 x 10000 / 1900 rounded up */
-    worked(get_number(lent[STATES] + 32, 8) == 100000000000000u / 710527,
+    worked(get_number(lent[STATES] + 2 * OC_STATE_LENGTH, 8) == 100000000000000u / 710527,
            "g = 4294967295 has m 2000 at s 3000");
 }
 
@@ -618,21 +675,82 @@ static void try_worked_drop_out(uint32_t operation)
     set_current(L1, 0, 285000);
     set_current(L2, 0, 284999);
     set_current(L3, 0, 299999);
-    set_state(0, level, 39, 0);
-    set_state(1, level, 39, 0);
-    set_state(2, level / 2, 39, 0);
+    set_running(0, level, 39);
+    set_running(1, level, 39);
+    set_running(2, level / 2, 39);
     try_batch(WORKED);
     uint8_t l3_trips = operation == 1 ? 32 : 0;
     worked(lent[OUT][0] == 128 + 64 + 8 + 4 + 1 + l3_trips,
            "95 x s stays started, 95 x s - 1 drops out; a full sum trips there");
-    worked(get_number(lent[STATES] + 32, 8) == level / 2,
+    worked(get_number(lent[STATES] + 2 * OC_STATE_LENGTH, 8) == level / 2,
            "with m at 100 or less a started phase gains 0");
+}
+
+/* Whether the archive left this state. */
+static bool left(int phase, uint32_t run, uint32_t drop, uint32_t started)
+{
+    const uint8_t *state = lent[STATES] + OC_STATE_LENGTH * phase;
+    return get_number(state + OC_SUM_AT, 8) == 0 && get_number(state + OC_RUN_AT, 4) == run
+        && get_number(state + OC_DROP_AT, 4) == drop
+        && get_number(state + OC_STARTED_AT, 4) == started;
+}
+
+/*
+ * On definite time all three had run for 39 ticks when they dropped out: now L1 is
+ * at 97 % of the setting, L2 comes to the reset time, L3 is above the setting.
+ */
+static void try_worked_kept_run(void)
+{
+    set_settings(1, 3000, 5, 40, 40, 60, 0);
+    quiet_batch(1);
+    set_current(L1, 0, 291000);
+    set_current(L3, 0, 300001);
+    set_state(0, 0, 39, 58, 0);
+    set_state(1, 0, 39, 59, 0);
+    set_state(2, 0, 39, 59, 0);
+    try_batch(WORKED);
+    worked(lent[OUT][0] == 128 + 64 + 32 + 4,
+           "a kept run does not start a phase at 97 %, and trips it above the setting");
+    worked(left(0, 39, 59, 0), "the run is kept while the new drop is below the reset time");
+    worked(left(1, 0, 60, 0), "the run becomes 0 once the new drop is the reset time");
+    worked(left(2, 40, 0, 1), "a start goes on from the kept run");
+}
+
+/* Clear states but for L3's run and field, of which so many bytes are lent. */
+static uint32_t refusal_of_states(uint32_t operation, size_t length, uint32_t run, uint32_t field)
+{
+    set_settings(operation, 200, 100, 100, 40, 60, 0);
+    quiet_batch(1);
+    memset(batch.bytes[STATES], 0, 2 * OC_STATES_LENGTH);
+    set_state(2, 0, run, 0, field);
+    batch.length[STATES] = length;
+    return try_batch(WORKED);
+}
+
+static void try_worked_states(void)
+{
+    for (uint32_t operation = 0; operation < OPERATIONS; operation++) {
+        worked(refusal_of_states(operation, 60, 0, 0) == 0, "60 bytes of the clear state");
+        worked(refusal_of_states(operation, 48, 0, 0) == 10, "48 bytes are refused by 10");
+        for (uint32_t run = 0; run < 2; run++)
+            worked(refusal_of_states(operation, 60, run, 2) == 8, "a field of 2 is refused by 8");
+        worked(refusal_of_states(operation, 60, 0, 1) == 8, "started without a run is 8");
+        worked((refusal_of_states(operation, 60, 1, 1) == 8) == (operation == 0),
+               "started with a run is 8 for Off alone");
+        worked((refusal_of_states(operation, 60, 1, 0) == 8) == (operation != 1),
+               "a run that is not started is accepted on definite time alone");
+    }
+    worked(refusal_of_states(1, 61, 0, 2) == 10, "a field of 2 in 61 bytes is not looked at");
+    worked(refusal_of_states(13, 60, 0, 2) == 1, "settings go before a field of 2");
 }
 
 static void try_worked(void)
 {
     try_worked_replay(20000, 201);
     try_worked_replay(18999, 0);
+    try_worked_restart();
+    try_worked_kept_run();
+    try_worked_states();
     try_worked_trips();
     try_worked_reset();
     try_worked_starts();
@@ -702,7 +820,7 @@ static void try_ratios(uint32_t operation, uint32_t s, uint32_t past, uint32_t r
         quiet_batch(1);
         for (uint32_t i = 0; i < 3; i++) {
             set_current((enum slice)i, 0, (m + i) * s + past);
-            set_state((int)i, 700000000000u, run, 0);
+            set_running((int)i, 700000000000u, run);
         }
         try_batch(RATIOS);
     }
@@ -719,30 +837,37 @@ static void try_all_ratios(void)
 
 /* ---- States ---- */
 
-/* Sums, runs and drops on both sides of each limit, on each phase in turn. */
+/* One of the phases has this state. */
+static void try_state(uint64_t sum, uint32_t run, uint32_t drop, uint32_t started)
+{
+    set_ticks(3);
+    random_states();
+    set_state((int)below(3), sum, run, drop, started);
+    random_currents(3);
+    random_blocks(3);
+    random_out(3);
+    try_batch(VALIDITY);
+}
+
+/* Sums, runs, drops and fields on both sides of each limit, in every combination. */
 static void try_state_limits(uint32_t operation)
 {
     static const uint32_t counts[] = {0, 1, LIMIT - 1, LIMIT, LIMIT + 1, UINT32_MAX};
+    static const uint32_t fields[] = {0, 1, 2, UINT32_MAX};
     random_settings(operation);
     uint64_t level = trip_level();
     const uint64_t sums[] = {0, 1, level - 1, level, level + 1, (uint64_t)1 << 63, UINT64_MAX};
     for (int sum = 0; sum < 7; sum++)
         for (int run = 0; run < 6; run++)
-            for (int drop = 0; drop < 6; drop++) {
-                set_ticks(3);
-                random_states();
-                set_state((int)below(3), sums[sum], counts[run], counts[drop]);
-                random_currents(3);
-                random_blocks(3);
-                random_out(3);
-                try_batch(VALIDITY);
-            }
+            for (int drop = 0; drop < 6; drop++)
+                for (int field = 0; field < 4; field++)
+                    try_state(sums[sum], counts[run], counts[drop], fields[field]);
 }
 
 /* A single bit of a valid state turned over: invalid, or another valid state. */
 static void try_state_bits(uint32_t operation)
 {
-    for (int bit = 0; bit < 48 * 8; bit++) {
+    for (int bit = 0; bit < OC_STATES_LENGTH * 8; bit++) {
         random_batch(operation, 2);
         batch.bytes[STATES][bit / 8] ^= (uint8_t)(1 << bit % 8);
         try_batch(VALIDITY);
@@ -773,8 +898,8 @@ static void try_states(void)
 static void try_length(enum slice slice, size_t ticks, size_t length)
 {
     random_batch((uint32_t)below(OPERATIONS), ticks);
-    if (slice == STATES && length > 48)
-        memset(batch.bytes[STATES] + 48, 0, length - 48);
+    if (slice == STATES && length > OC_STATES_LENGTH)
+        memset(batch.bytes[STATES] + OC_STATES_LENGTH, 0, length - OC_STATES_LENGTH);
     batch.length[slice] = length;
     try_batch(LENGTHS);
 }
@@ -798,10 +923,10 @@ static void try_slice_lengths(enum slice slice, size_t ticks)
 /* Invalid states in a slice of the wrong length are never looked at. */
 static void try_states_unread(void)
 {
-    static const size_t lengths[] = {0, 1, 15, 16, 32, 44, 47, 49, 52, 96};
-    for (int i = 0; i < 10; i++) {
+    static const size_t lengths[] = {0, 1, 16, 20, 40, 48, 56, 59, 61, 64, 120};
+    for (int i = 0; i < 11; i++) {
         random_batch((uint32_t)below(OPERATIONS), 5);
-        memset(batch.bytes[STATES], 0xff, 96);
+        memset(batch.bytes[STATES], 0xff, 120);
         batch.length[STATES] = lengths[i];
         try_batch(LENGTHS);
     }
@@ -835,7 +960,7 @@ static void try_wrapping_lengths(void)
         size_t n = 4 * ticks;
         uint32_t got = oc_batch(v[0], v[1], v[2], v[3], v[4], v[5], v[6], lent[L1], n, lent[L2],
                                 n, lent[L3], n, lent[BLOCK], wide, lent[OUT], wide,
-                                lent[STATES], 48);
+                                lent[STATES], OC_STATES_LENGTH);
         compare(LENGTHS, got, 10);
         tried[LENGTHS]++;
         refusals_batch[10]++;
@@ -844,8 +969,8 @@ static void try_wrapping_lengths(void)
 
 static void try_lengths(void)
 {
-    static const size_t ticks[] = {0, 1, 2, 3, 4, 7, 12, 48, 100};
-    for (int i = 0; i < 9; i++)
+    static const size_t ticks[] = {0, 1, 2, 3, 4, 7, 12, 15, 48, 60, 100};
+    for (int i = 0; i < 11; i++)
         for (enum slice slice = L1; slice < SLICES; slice++)
             for (int round = 0; round < 4; round++)
                 try_slice_lengths(slice, ticks[i]);
@@ -890,10 +1015,10 @@ static void try_long(uint32_t operation)
     batch.length[below(SLICES)]--;
     try_batch(LONG);
     random_batch(operation, LIMIT + 1);
-    batch.length[STATES] = 47;
+    batch.length[STATES] = OC_STATES_LENGTH - 1;
     try_batch(LONG);
     random_batch(operation, LIMIT + 1);
-    set_state(1, 0, 1, 1);
+    set_invalid(1, 0, 1);
     try_batch(LONG);
 }
 
@@ -906,7 +1031,7 @@ static void try_long_constant(uint32_t operation)
     constant_current(L1, LIMIT, 15000);
     constant_current(L2, LIMIT, costly(operation) ? 10001 : 50000);
     constant_current(L3, LIMIT, 9600);
-    set_state(2, 0, 1, 0);
+    set_running(2, 0, 1);
     try_batch(LONG);
     carry_states();
     batch.length[L1] = batch.length[L2] = batch.length[L3] = 400;
@@ -921,7 +1046,7 @@ static void spoil(enum setting unlucky, size_t ticks)
     if (one_in(8))
         spoil_setting(unlucky);
     if (one_in(3))
-        set_state((int)below(3), one_in(2) ? UINT64_MAX : 0, (uint32_t)between(1, LIMIT), 1);
+        set_invalid((int)below(3), one_in(2) ? UINT64_MAX : 0, (uint32_t)between(1, LIMIT));
     if (one_in(3))
         batch.bytes[BLOCK][one_in(2) ? ticks - 1 : below(ticks)] = bad_block();
     if (one_in(3)) {
@@ -958,7 +1083,7 @@ static void try_empty(void)
         if (one_in(4))
             spoil_setting((enum setting)below(SETTINGS));
         if (one_in(4))
-            set_state((int)below(3), 0, 1, 1);
+            set_invalid((int)below(3), 0, 1);
         try_batch(EMPTY);
     }
 }
@@ -991,8 +1116,8 @@ static void try_carried(uint32_t operation)
 
 /*
  * The sum is built up, then the current dips for about the reset time: an IEC
- * sum is kept or cleared at one tick, an ANSI sum decays tick by tick. At a
- * current that holds the phase there is no dip: it stays started.
+ * sum or a definite run is kept or cleared at one tick, an ANSI sum decays tick
+ * by tick. At a current that holds the phase there is no dip: it stays started.
  */
 static void try_dip(uint32_t operation, uint32_t reset_time, size_t dip)
 {
@@ -1004,7 +1129,7 @@ static void try_dip(uint32_t operation, uint32_t reset_time, size_t dip)
         uint32_t low = one_in(4) ? holding_current(s) : idle_current(s);
         for (size_t tick = 0; tick < ticks; tick++)
             set_current(phase, tick, tick >= 2 && tick < 2 + dip ? low : started_current(s));
-        set_state((int)phase, operation == 1 ? 0 : random_sum(), one_in(2) ? 0 : 500, 0);
+        set_running((int)phase, operation == 1 ? 0 : random_sum(), one_in(2) ? 0 : 500);
     }
     random_blocks(ticks);
     try_batch(DIPS);
@@ -1030,7 +1155,7 @@ static void try_long_decay(uint32_t operation)
     constant_current(L2, LIMIT, 5000);
     constant_current(L3, LIMIT, 10000);
     for (int phase = 0; phase < 3; phase++)
-        set_state(phase, operation == 1 ? 0 : trip_level(), phase == 2 ? 0 : LIMIT, 0);
+        set_running(phase, operation == 1 ? 0 : trip_level(), phase == 2 ? 0 : LIMIT);
     for (int part = 0; part < 2; part++) {
         try_batch(DIPS);
         carry_states();
@@ -1038,6 +1163,65 @@ static void try_long_decay(uint32_t operation)
     /* On the setting exactly, an ANSI sum stands still. */
     worked(operation <= 5 || sum_of(2) == trip_level(), "at m = 100 the loss is 0");
     worked(operation <= 5 || sum_of(0) == 0, "an ANSI sum goes down to 0");
+}
+
+/* Mostly shorter than the reset time, often within two ticks of it; some are long. */
+static size_t random_dip(void)
+{
+    uint32_t reset_time = batch.settings[RESET_TIME];
+    switch (below(8)) {
+    case 0:
+    case 1:
+        return reset_time - 2 + (size_t)below(4);
+    case 2:
+        return (size_t)between(reset_time, 4 * reset_time);
+    default:
+        return (size_t)between(1, reset_time - 1);
+    }
+}
+
+/* Some of the currents after the first leave the phase as that has made it. Returns the end. */
+static size_t add_stretch(enum slice phase, size_t tick, size_t end, uint32_t (*first)(uint32_t))
+{
+    uint32_t s = batch.settings[START_CURRENT];
+    for (size_t start = tick; tick < end; tick++)
+        set_current(phase, tick, tick > start && one_in(3) ? holding_current(s) : first(s));
+    return tick;
+}
+
+static size_t least(size_t a, size_t b)
+{
+    return a < b ? a : b;
+}
+
+static void pecking_currents(enum slice phase, size_t ticks)
+{
+    for (size_t tick = 0; tick < ticks;) {
+        size_t burst = (size_t)between(1, 60), dip = random_dip();
+        tick = add_stretch(phase, tick, least(ticks, tick + burst), started_current);
+        tick = add_stretch(phase, tick, least(ticks, tick + dip), idle_current);
+    }
+}
+
+/* Over several batches, so that runs are kept across their ends too. */
+static void try_pecking(uint32_t operation)
+{
+    for (uint32_t round = 0; round < effort(operation, 40); round++) {
+        random_settings(operation);
+        batch.settings[DEFINITE_DELAY] = (uint32_t)between(40, 400);
+        batch.settings[RESET_TIME] = (uint32_t)between(60, 300);
+        random_states();
+        for (int part = 0; part < 5; part++) {
+            size_t ticks = (size_t)between(1, 1000);
+            set_ticks(ticks);
+            for (enum slice phase = L1; phase <= L3; phase++)
+                pecking_currents(phase, ticks);
+            random_blocks(ticks);
+            random_out(ticks);
+            try_batch(PECKING);
+            carry_states();
+        }
+    }
 }
 
 /* ---- The report ---- */
@@ -1052,11 +1236,11 @@ static void say_refusals(void)
 
 static void say_operations(void)
 {
-    printf("\n%-10s%12s%12s%12s%12s%16s\n", "operation", "ticks", "started", "held", "tripped",
-           "tripped,blocked");
+    printf("\n%-10s%12s%12s%12s%12s%16s%16s\n", "operation", "ticks", "started", "held", "tripped",
+           "tripped,blocked", "of a kept run");
     for (int i = 0; i < OPERATIONS; i++)
-        printf("%-10d%12lu%12lu%12lu%12lu%16lu\n", i, ticks_run[i], starts[i], held[i], trips[i],
-               blocked_trips[i]);
+        printf("%-10d%12lu%12lu%12lu%12lu%16lu%16lu\n", i, ticks_run[i], starts[i], held[i],
+               trips[i], blocked_trips[i], kept_trips[i]);
 }
 
 /* A test that never met a rule says nothing of it, so '0 differ' is then not the last line. */
@@ -1076,6 +1260,10 @@ static bool all_seen(void)
             printf("operation %d was never held, never tripped, or never while blocked\n", i);
             all = false;
         }
+    if (kept_trips[1] == 0) {
+        printf("definite time never tripped of a kept run\n");
+        all = false;
+    }
     return all;
 }
 
@@ -1109,6 +1297,7 @@ static void try_all(void)
             continue;
         try_long_constant(operation);
         try_dips(operation);
+        try_pecking(operation);
         try_long_decay(operation);
     }
 }

@@ -45,6 +45,10 @@ recording("ansi_dips.csv", "9,200,5,40,40,60,0", [(60, 80000, 0, 0, 0), (300, 0,
 recording("blocked_trip.csv", "1,200,100,40,50,60,0", [(70, 0, 30000, 0, 1), (10, 0, 30000, 0, 0), (5, 0, 0, 0, 0)])
 # A motor feeder that chatters around the setting, between 101 % and 96 % of it, and then falls to just below 95 %.
 recording("chatter.csv", "1,200,100,40,100,60,0", 15 * [(6, 20200, 0, 0, 0), (4, 19200, 0, 0, 0)] + [(10, 18999, 0, 0, 0)])
+# A pecking fault: bursts of 30 ticks, and dips of 20, 20 (at 97 % but for its first tick), 59 and 60 with a reset time of 60.
+recording("pecking.csv", "1,200,100,40,100,60,0", [
+    (30, 40000, 0, 0, 0), (20, 0, 0, 0, 0), (30, 40000, 0, 0, 0), (1, 0, 0, 0, 0), (19, 19400, 0, 0, 0), (30, 40000, 0, 0, 0),
+    (59, 0, 0, 0, 0), (30, 40000, 0, 0, 0), (60, 0, 0, 0, 0), (30, 40000, 0, 0, 0), (10, 0, 0, 0, 0)])
 # A damaged row: the 30th has a letter in it.
 recording("damaged_row.csv", "1,200,100,40,40,60,0", [(60, 20001, 0, 0, 0)])
 path = here / "damaged_row.csv"

@@ -8,10 +8,10 @@ use phase::Settings;
 use phase::tick::Ticked;
 use phase::tick::tick;
 
-// IEC VeryInv with the start current s and the reset time 60.
-fn settings(s: u32) -> Settings {
+// An operation with the start current s and the reset time 60.
+fn settings_of(operation: u32, s: u32) -> Settings {
     Settings {
-        operation: 3,
+        operation,
         start_current: s,
         time_multiplier: 100,
         minimum_delay: 40,
@@ -19,6 +19,11 @@ fn settings(s: u32) -> Settings {
         reset_time: 60,
         start_only: 0,
     }
+}
+
+// IEC VeryInv.
+fn settings(s: u32) -> Settings {
+    settings_of(3, s)
 }
 
 fn starts(s: u32, g: u32) -> bool {
@@ -31,8 +36,17 @@ fn tick_running(g: u32) -> Ticked {
         sum: 1000,
         run: 1,
         drop: 0,
+        started: true,
     };
     tick(settings(200), running, g)
+}
+
+// Whether the phase trip first comes at tick k.
+fn is_at(trip: TripTick, k: u32) -> bool {
+    match trip {
+        TripTick::At(first) => first == k,
+        TripTick::None => false,
+    }
 }
 
 // Whether a phase that has run for one tick, with a full sum, first trips at tick k.
@@ -41,12 +55,10 @@ fn trips_first_at(g: u32, k: u32) -> bool {
         sum: 100000000000,
         run: 1,
         drop: 0,
+        started: true,
     };
     let trip = jump(settings(200), full, g, 1000).trip;
-    match trip {
-        TripTick::At(first) => first == k,
-        TripTick::None => false,
-    }
+    is_at(trip, k)
 }
 
 // The sum after so many idle ticks, from a sum of 1000.
@@ -55,8 +67,37 @@ fn sum_after(idle: u32) -> u64 {
         sum: 1000,
         run: 0,
         drop: 0,
+        started: false,
     };
     jump(settings(200), dipping, 0, idle).state.sum
+}
+
+// A definite-time phase with the definite delay 40 in a dip after 39 ticks running.
+fn in_a_dip() -> PhaseState {
+    PhaseState {
+        sum: 0,
+        run: 39,
+        drop: 1,
+        started: false,
+    }
+}
+
+// Its run after so many idle ticks more.
+fn run_after(idle: u32) -> u32 {
+    jump(settings_of(1, 200), in_a_dip(), 0, idle).state.run
+}
+
+fn definite_examples() {
+    say(b"\nOne phase, Definite, run 39 kept in the first tick of a dip\n");
+    say(b"start current 200, sample 19400: not started");
+    verdict(!tick(settings_of(1, 200), in_a_dip(), 19400).start);
+    say(b"start current 200, sample 20001, definite delay 40: trips at tick 1");
+    let trip = jump(settings_of(1, 200), in_a_dip(), 20001, 1000).trip;
+    verdict(is_at(trip, 1));
+    say(b"reset time 60, the 59th idle tick keeps the run");
+    verdict(run_after(58) == 39);
+    say(b"reset time 60, the 60th clears it");
+    verdict(run_after(59) == 0);
 }
 
 pub(crate) fn phase_examples() {
@@ -80,4 +121,5 @@ pub(crate) fn phase_examples() {
     verdict(sum_after(59) == 1000);
     say(b"reset time 60, 60 idle ticks clear it");
     verdict(sum_after(60) == 0);
+    definite_examples();
 }

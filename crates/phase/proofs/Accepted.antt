@@ -1,11 +1,11 @@
 -- What an accepted tick tells of its arguments, and what it and a refused one answer.
 -- Assumes nothing.
 use Prim.Native.Nat.{ℕ}
-use mathlib.Core.Bool.{true, _&&_, _||_}
+use mathlib.Core.Bool.{true, _&&_}
 use mathlib.Core.List.{[], _∷_}
 use mathlib.Core.Path.{_≡_, refl, sym, _∙_, ap}
 use borrow.Author.Tests.{leb-true, eq-eqb, ne-eqb}
-use lib.Dec.{leb, eqb}
+use lib.Dec.{leb}
 use Rattle.checks.specs.Checks.{check, firstFailed}
 use Rattle.checks.proofs.PassedLaws.{all-passed, front-passed}
 use Rattle.checks.proofs.Tests.{both-true, in-range}
@@ -55,8 +55,7 @@ unfolding valid
 valid-in-limits settings state e =
     let (front, own) = both-true (leb (state .sum) (tripLevel settings) && validCounts state) (validFor (kindOf (settings .operation)) state) e in
     let (sum, counts) = both-true (leb (state .sum) (tripLevel settings)) (validCounts state) front in
-    let (limits, either) = both-true (leb (state .run) runLimit && leb (state .drop) runLimit) (eqb (state .run) 0 || eqb (state .drop) 0) counts in
-    let (run, drop) = both-true (leb (state .run) runLimit) (leb (state .drop) runLimit) limits in
+    let (run, drop) = both-true (leb (state .run) runLimit) (leb (state .drop) runLimit) counts in
     record {
       sum = leb-true (state .sum) (tripLevel settings) sum;
       run = leb-true (state .run) runLimit run;

@@ -3,55 +3,68 @@
 use Prim.Native.Nat.{ℕ, zero, suc, _≤_}
 use native.Mathlib.Omega.{arith}
 use mathlib.Core.Bool.{Bool, true, false, _&&_, or-true}
-use mathlib.Core.Logic.{_⊎_, inl, inr}
 use mathlib.Core.Path.{_≡_, refl}
-use borrow.Author.Tests.{le-leb, eq-eqb}
-use lib.Dec.{leb, eqb}
+use borrow.Author.Tests.{le-leb, lt-ltb}
+use lib.Dec.{leb, ltb, eqb}
 use Rattle.checks.proofs.Cases.{by-cond}
 use Rattle.phase.specs.declared.operation.Kind.{Kind}
 use Rattle.phase.specs.declared.operation.Kind.the-variants.{Off, On}
 use Rattle.phase.specs.declared.operation.ResetRule.the-variants.{Iec, Ansi}
-use Rattle.phase.specs.declared.operation.Timing.{Timing}
 use Rattle.phase.specs.declared.operation.Timing.the-variants.{Definite, Curve}
 use Rattle.phase.specs.declared.settings.Settings.{Settings}
 use Rattle.phase.specs.declared.state.PhaseState.{PhaseState}
+use Rattle.phase.specs.device.Ranges.{InLimits}
 use Rattle.phase.specs.Operation.{kindOf}
 use Rattle.phase.specs.Settings.{tripLevel}
 use Rattle.phase.specs.State.{runLimit, clearState, valid, validCounts, validFor}
-use Rattle.phase.specs.Tick.{countUp, started, nextBy, nextState, stateAfter, tickRefusal}
+use Rattle.phase.specs.Tick.{countUp, keptTill, started, nextBy, nextState, stateAfter, tickRefusal}
 use Rattle.phase.proofs.Accepted.{valid-in-limits, tick-passed}
 
 abbrev validBy : Settings → Kind → PhaseState → Bool
 validBy settings kind state = leb (state .sum) (tripLevel settings) && validCounts state && validFor kind state
 
-by-parts : (settings : Settings) (kind : Kind) (state : PhaseState) → state .sum ≤ tripLevel settings → state .run ≤ runLimit → state .drop ≤ runLimit → (state .run ≡ 0) ⊎ (state .drop ≡ 0) → validFor kind state ≡ true → validBy settings kind state ≡ true
-by-parts settings kind state s r d (inl e) f =
-    rw (le-leb (state .sum) (tripLevel settings) s, le-leb (state .run) runLimit r, le-leb (state .drop) runLimit d, eq-eqb (state .run) 0 e) f
-by-parts settings kind state s r d (inr e) f =
-    rw (le-leb (state .sum) (tripLevel settings) s, le-leb (state .run) runLimit r, le-leb (state .drop) runLimit d, eq-eqb (state .drop) 0 e, or-true (eqb (state .run) 0)) f
+by-parts : (settings : Settings) (kind : Kind) (state : PhaseState) → InLimits settings state → validFor kind state ≡ true → validBy settings kind state ≡ true
+by-parts settings kind state limits f =
+    rw (le-leb (state .sum) (tripLevel settings) (limits .sum), le-leb (state .run) runLimit (limits .run), le-leb (state .drop) runLimit (limits .drop)) f
 
--- the sum after a tick, by the group of operations
+-- ---- the limits after a tick, by the group of operations
+
+kept-within : (settings : Settings) (newDrop n limit : ℕ) → n ≤ limit → keptTill settings newDrop n ≤ limit
+kept-within settings newDrop n limit h =
+    by-cond (λ k. k ≤ limit) (leb (settings .«reset_time») newDrop) 0 n (λ t. omega arith) (λ t. h)
+
 sum-kept : (kind : Kind) (b : Bool) (settings : Settings) (g : ℕ) (state : PhaseState) → state .sum ≤ tripLevel settings → nextBy kind b settings g state .sum ≤ tripLevel settings
 sum-kept Off b settings g state h = omega arith
 sum-kept (On Definite) true settings g state h = omega arith
 sum-kept (On Definite) false settings g state h = omega arith
 sum-kept (On (Curve rule)) true settings g state h = omega arith
 sum-kept (On (Curve Iec)) false settings g state h =
-    by-cond (λ n. n ≤ tripLevel settings) (leb (settings .«reset_time») (countUp (state .drop))) 0 (state .sum) (λ t. omega arith) (λ t. h)
+    kept-within settings (countUp (state .drop)) (state .sum) (tripLevel settings) h
 sum-kept (On (Curve Ansi)) false settings g state h = omega arith
 
--- a Definite phase has no sum after a tick either
-valid-after : (timing : Timing) (b : Bool) (settings : Settings) (g : ℕ) (state : PhaseState) → validFor (On timing) (nextBy (On timing) b settings g state) ≡ true
-valid-after Definite true settings g state = refl
-valid-after Definite false settings g state = refl
-valid-after (Curve rule) b settings g state = refl
+run-kept : (kind : Kind) (b : Bool) (settings : Settings) (g : ℕ) (state : PhaseState) → state .run ≤ runLimit → nextBy kind b settings g state .run ≤ runLimit
+run-kept Off b settings g state h = omega arith
+run-kept (On timing) true settings g state h = omega arith
+run-kept (On Definite) false settings g state h = kept-within settings (countUp (state .drop)) (state .run) runLimit h
+run-kept (On (Curve rule)) false settings g state h = omega arith
 
-keeps : (kind : Kind) (b : Bool) (settings : Settings) (g : ℕ) (state : PhaseState) → nextBy kind b settings g state .sum ≤ tripLevel settings → validBy settings kind (nextBy kind b settings g state) ≡ true
-keeps Off b settings g state h = by-parts settings Off clearState h (omega arith) (omega arith) (inl refl) refl
-keeps (On timing) true settings g state h =
-    by-parts settings (On timing) (nextBy (On timing) true settings g state) h (omega arith) (omega arith) (inr refl) (valid-after timing true settings g state)
-keeps (On timing) false settings g state h =
-    by-parts settings (On timing) (nextBy (On timing) false settings g state) h (omega arith) (omega arith) (inl refl) (valid-after timing false settings g state)
+drop-kept : (kind : Kind) (b : Bool) (settings : Settings) (g : ℕ) (state : PhaseState) → nextBy kind b settings g state .drop ≤ runLimit
+drop-kept Off b settings g state = omega arith
+drop-kept (On timing) true settings g state = omega arith
+drop-kept (On timing) false settings g state = omega arith
+
+-- ---- what the group of operations asks
+
+-- a started tick leaves run above 0
+runs : (run : ℕ) → ltb 0 (countUp run) ≡ true
+runs run = lt-ltb 0 (countUp run) (omega arith)
+
+valid-after : (kind : Kind) (b : Bool) (settings : Settings) (g : ℕ) (state : PhaseState) → validFor kind (nextBy kind b settings g state) ≡ true
+valid-after Off b settings g state = refl
+valid-after (On Definite) true settings g state = runs (state .run)
+valid-after (On Definite) false settings g state = refl
+valid-after (On (Curve rule)) true settings g state = rw (runs (state .run), or-true (eqb (countUp (state .run)) 0))
+valid-after (On (Curve rule)) false settings g state = refl
 
 zero-for : (kind : Kind) → validFor kind clearState ≡ true
 zero-for Off = refl
@@ -62,14 +75,21 @@ pub clear-is-valid : (settings : Settings) → valid settings clearState ≡ tru
 unfolding valid
 clear-is-valid settings =
     let kind = kindOf (settings .operation) in
-    by-parts settings kind clearState (omega arith) (omega arith) (omega arith) (inl refl) (zero-for kind)
+    by-parts settings kind clearState (record { sum = omega arith; run = omega arith; drop = omega arith }) (zero-for kind)
 
 pub tick-keeps-valid : (settings : Settings) (state : PhaseState) (g : ℕ) → valid settings state ≡ true → valid settings (nextState settings state g) ≡ true
 unfolding valid nextState
 tick-keeps-valid settings state g e =
     let kind = kindOf (settings .operation) in
     let b = started settings state g in
-    keeps kind b settings g state (sum-kept kind b settings g state (valid-in-limits settings state e .sum))
+    let before = valid-in-limits settings state e in
+    let limits : InLimits settings (nextBy kind b settings g state) =
+    record {
+      sum = sum-kept kind b settings g state (before .sum);
+      run = run-kept kind b settings g state (before .run);
+      drop = drop-kept kind b settings g state;
+    } in
+    by-parts settings kind (nextBy kind b settings g state) limits (valid-after kind b settings g state)
 
 pub ticks-keep-valid : (settings : Settings) (g n : ℕ) (state : PhaseState) → valid settings state ≡ true → valid settings (stateAfter settings g n state) ≡ true
 unfolding stateAfter

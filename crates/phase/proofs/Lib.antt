@@ -1,4 +1,5 @@
 pub mod PaceLaws
+pub mod StateLaws
 pub mod StartLaws
 pub mod Walk
 pub mod Accepted

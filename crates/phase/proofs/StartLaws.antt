@@ -1,11 +1,11 @@
--- The drop-out at 95 % (02, E3): over equal samples a phase stays started, or stays idle, and with m at 100 or less a started one
+-- The drop-out at 95 % (02, E3 and E7): over equal samples a phase stays started, or stays idle, and with m at 100 or less a started one
 -- neither gains nor loses.
 -- Assumes nothing.
 use Prim.Native.Nat.{ℕ, zero, suc, _*_, _≤_}
 use native.Mathlib.Omega.{arith}
 use mathlib.Core.Bool.{Bool, true, false, cond, false≢true}
 use mathlib.Core.Path.{_≡_, refl, sym, ap, _∙_}
-use borrow.Author.Tests.{le-leb, leb-false, lt-ltb, ltb-true, le-ltb, eqb-true}
+use borrow.Author.Tests.{le-leb, leb-false, ltb-true, le-ltb}
 use lib.Dec.{ltb, leb}
 use Rattle.curve.proofs.GainLaws.{gain-zero-to-100}
 use Rattle.curve.specs.Ratio.{ratioOf}
@@ -18,33 +18,33 @@ use Rattle.phase.specs.declared.state.PhaseState.{PhaseState}
 use Rattle.phase.specs.Operation.{kindOf}
 use Rattle.phase.specs.Settings.{tripLevel}
 use Rattle.phase.specs.State.{valid, validFor}
-use Rattle.phase.specs.Tick.{gainAt, countUp, started, nextBy, nextState, stateAfter, startBy, phaseStart}
+use Rattle.phase.specs.Tick.{gainAt, started, nextBy, nextState, stateAfter, startBy, phaseStart}
 use Rattle.phase.proofs.Accepted.{valid-in-limits, valid-kind}
+use Rattle.phase.proofs.StateLaws.{definite-sum}
 
 -- ---- equal samples
 
--- a started phase has g at least 95 x s, whether it ran before or not
-started-high : (ran : Bool) (s g : ℕ) → cond ran (leb (95 * s) g) (ltb (100 * s) g) ≡ true → leb (95 * s) g ≡ true
+-- a started phase has g at least 95 x s, whether it was started before or not
+started-high : (was : Bool) (s g : ℕ) → cond was (leb (95 * s) g) (ltb (100 * s) g) ≡ true → leb (95 * s) g ≡ true
 started-high true s g e = e
 started-high false s g e = le-leb (95 * s) g (omega (arith, ltb-true (100 * s) g e))
 
 -- an idle one has g at most 100 x s
-idle-low : (ran : Bool) (s g : ℕ) → cond ran (leb (95 * s) g) (ltb (100 * s) g) ≡ false → ltb (100 * s) g ≡ false
+idle-low : (was : Bool) (s g : ℕ) → cond was (leb (95 * s) g) (ltb (100 * s) g) ≡ false → ltb (100 * s) g ≡ false
 idle-low true s g e = le-ltb (100 * s) g (omega (arith, leb-false (95 * s) g e))
 idle-low false s g e = e
 
--- a started tick leaves run above 0, an idle one leaves it 0
+-- a tick leaves the field as it was started
 on-again : (timing : Timing) (b : Bool) (settings : Settings) (g : ℕ) (state : PhaseState) → started settings state g ≡ b → started settings (nextBy (On timing) b settings g state) g ≡ b
 unfolding started
-on-again timing true settings g state e =
-    rw (lt-ltb 0 (countUp (state .run)) (omega arith)) (started-high (ltb 0 (state .run)) (settings .«start_current») g e)
-on-again timing false settings g state e = idle-low (ltb 0 (state .run)) (settings .«start_current») g e
+on-again timing true settings g state e = started-high (state .started) (settings .«start_current») g e
+on-again timing false settings g state e = idle-low (state .started) (settings .«start_current») g e
 
 start-again : (kind : Kind) (settings : Settings) (g : ℕ) (state : PhaseState) → startBy kind (started settings (nextBy kind (started settings state g) settings g state) g) ≡ startBy kind (started settings state g)
 start-again Off settings g state = refl
 start-again (On timing) settings g state = on-again timing (started settings state g) settings g state refl
 
--- of any settings and any state: Off starts at no tick, whatever its run
+-- of any settings and any state: Off starts at no tick, whatever its field
 pub start-stays : (settings : Settings) (g n : ℕ) (state : PhaseState) → phaseStart settings (stateAfter settings g n state) g ≡ phaseStart settings state g
 unfolding phaseStart stateAfter nextState
 start-stays settings g zero state = refl
@@ -61,7 +61,7 @@ by-start f off (On timing) b c e = ap (f (On timing)) e
 no-gain : (kind : Kind) (b : Bool) (settings : Settings) (g : ℕ) (state : PhaseState) → startBy kind b ≡ true → state .sum ≤ tripLevel settings → validFor kind state ≡ true → gainAt settings g ≡ 0 → nextBy kind b settings g state .sum ≡ state .sum
 no-gain Off b settings g state on small v flat = absurd (false≢true on)
 no-gain (On timing) false settings g state on small v flat = absurd (false≢true on)
-no-gain (On Definite) true settings g state on small v flat = sym (eqb-true (state .sum) 0 v)
+no-gain (On Definite) true settings g state on small v flat = sym (definite-sum state v)
 no-gain (On (Curve rule)) true settings g state on small v flat = omega (arith, small, flat)
 
 -- and loses nothing: its sum stays

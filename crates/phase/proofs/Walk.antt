@@ -16,12 +16,9 @@ use Rattle.phase.specs.declared.state.PhaseState.{PhaseState}
 use Rattle.phase.specs.device.Closed.{advanceBy, advanced}
 use Rattle.phase.specs.Operation.{kindOf}
 use Rattle.phase.specs.State.{runLimit}
-use Rattle.phase.specs.Tick.{started, nextBy, nextState, stateAfter, phaseStart, phaseTrip, tripBy}
+use Rattle.phase.specs.Tick.{started, keptTill, nextBy, nextState, stateAfter, phaseStart, phaseTrip, tripBy}
 use Rattle.phase.proofs.StartLaws.{start-stays, by-start}
-
--- equal parts, equal states
-pub same-state : {s s' r r' d d' : ℕ} → s ≡ s' → r ≡ r' → d ≡ d' → _≡_ {A = PhaseState} (record { sum = s; run = r; drop = d }) (record { sum = s'; run = r'; drop = d' })
-same-state a b c = cc
+use Rattle.phase.proofs.StateLaws.{same-state}
 
 -- ---- one tick more
 
@@ -34,33 +31,33 @@ drain-again sum loss n = omega arith
 count-again : (count n : ℕ) → min (min (count + n) runLimit + 1) runLimit ≡ min (count + suc n) runLimit
 count-again count n = omega arith
 
--- a sum that was cleared stays so, since the drop never falls
-clear-again : (reset d e sum : ℕ) → d ≤ e → cond (leb reset e) 0 (cond (leb reset d) 0 sum) ≡ cond (leb reset e) 0 sum
-clear-again reset d e sum h = go (leb reset d) refl
+-- what was cleared stays so, since the drop never falls
+clear-again : (reset d e n : ℕ) → d ≤ e → cond (leb reset e) 0 (cond (leb reset d) 0 n) ≡ cond (leb reset e) 0 n
+clear-again reset d e n h = go (leb reset d) refl
   where
-    go : (b : Bool) → leb reset d ≡ b → cond (leb reset e) 0 (cond b 0 sum) ≡ cond (leb reset e) 0 sum
+    go : (b : Bool) → leb reset d ≡ b → cond (leb reset e) 0 (cond b 0 n) ≡ cond (leb reset e) 0 n
     go false q = refl
     go true q = simp (le-leb reset e (omega (arith, leb-true reset d q)))
 
-dropped-again : (reset drop n sum : ℕ) → cond (leb reset (min (min (drop + n) runLimit + 1) runLimit)) 0 (cond (leb reset (min (drop + n) runLimit)) 0 sum) ≡ cond (leb reset (min (drop + suc n) runLimit)) 0 sum
-dropped-again reset drop n sum =
-    rw (count-again drop n) (clear-again reset (min (drop + n) runLimit) (min (drop + suc n) runLimit) sum (omega arith))
+kept-again : (settings : Settings) (drop n kept : ℕ) → keptTill settings (min (min (drop + n) runLimit + 1) runLimit) (keptTill settings (min (drop + n) runLimit) kept) ≡ keptTill settings (min (drop + suc n) runLimit) kept
+kept-again settings drop n kept =
+    rw (count-again drop n) (clear-again (settings .«reset_time») (min (drop + n) runLimit) (min (drop + suc n) runLimit) kept (omega arith))
 
 once : (kind : Kind) (b : Bool) (settings : Settings) (g : ℕ) (state : PhaseState) → nextBy kind b settings g state ≡ advanceBy kind b settings g 1 state
 once Off b settings g state = refl
 once (On Definite) true settings g state = refl
 once (On Definite) false settings g state = refl
-once (On (Curve rule)) true settings g state = same-state (omega arith) refl refl
+once (On (Curve rule)) true settings g state = same-state (omega arith) refl refl refl
 once (On (Curve Iec)) false settings g state = refl
-once (On (Curve Ansi)) false settings g state = same-state (omega arith) refl refl
+once (On (Curve Ansi)) false settings g state = same-state (omega arith) refl refl refl
 
 again : (kind : Kind) (b : Bool) (settings : Settings) (g n : ℕ) (state : PhaseState) → nextBy kind b settings g (advanceBy kind b settings g n state) ≡ advanceBy kind b settings g (suc n) state
 again Off b settings g n state = refl
-again (On Definite) true settings g n state = same-state refl (count-again _ _) refl
-again (On Definite) false settings g n state = same-state refl refl (count-again _ _)
-again (On (Curve rule)) true settings g n state = same-state (fill-again _ _ _ _) (count-again _ _) refl
-again (On (Curve Iec)) false settings g n state = same-state (dropped-again (settings .«reset_time») (state .drop) n (state .sum)) refl (count-again _ _)
-again (On (Curve Ansi)) false settings g n state = same-state (drain-again _ _ _) refl (count-again _ _)
+again (On Definite) true settings g n state = same-state refl (count-again _ _) refl refl
+again (On Definite) false settings g n state = same-state refl (kept-again settings (state .drop) n (state .run)) (count-again _ _) refl
+again (On (Curve rule)) true settings g n state = same-state (fill-again _ _ _ _) (count-again _ _) refl refl
+again (On (Curve Iec)) false settings g n state = same-state (kept-again settings (state .drop) n (state .sum)) refl (count-again _ _) refl
+again (On (Curve Ansi)) false settings g n state = same-state (drain-again _ _ _) refl (count-again _ _) refl
 
 -- ---- the walk
 

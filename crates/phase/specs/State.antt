@@ -1,7 +1,8 @@
--- The phase state (01, 'One phase tick'): "State: sum, run, drop."
+-- The phase state (01, 'One phase tick'; 02, E7): "State: sum, run, drop." and "a field for whether it was started", on its last
+-- tick.
 use Prim.Native.Nat.{ℕ}
-use mathlib.Core.Bool.{Bool, true, _&&_, _||_}
-use lib.Dec.{leb, eqb}
+use mathlib.Core.Bool.{Bool, false, cond, not, _&&_, _||_}
+use lib.Dec.{leb, ltb, eqb}
 use Rattle.phase.specs.declared.operation.Kind.{Kind}
 use Rattle.phase.specs.declared.operation.Kind.the-variants.{Off, On}
 use Rattle.phase.specs.declared.operation.Timing.the-variants.{Definite, Curve}
@@ -16,18 +17,29 @@ runLimit = 60000
 
 -- "The clear state is all zero."
 abbrev pub clearState : PhaseState
-clearState = record { sum = 0; run = 0; drop = 0 }
+clearState = record { sum = 0; run = 0; drop = 0; started = false }
 
--- "run and drop at most 60,000 and not both above 0"
+-- "run and drop at most 60,000"
 abbrev pub validCounts : PhaseState → Bool
-validCounts state =
-    leb (state .run) runLimit && leb (state .drop) runLimit && (eqb (state .run) 0 || eqb (state .drop) 0)
+validCounts state = leb (state .run) runLimit && leb (state .drop) runLimit
 
--- "sum is 0 for Definite; all three are 0 for Off"
+-- "sum is 0 for Definite"; "on a started phase drop is 0 and run above 0", on one that is not both may be above 0
+abbrev pub validDefinite : PhaseState → Bool
+validDefinite state = eqb (state .sum) 0 && (not (state .started) || (eqb (state .drop) 0 && ltb 0 (state .run)))
+
+-- run and drop "not both above 0"; "for curves the field is on exactly when run is above 0"
+abbrev pub validCurve : PhaseState → Bool
+validCurve state =
+    (eqb (state .run) 0 || eqb (state .drop) 0) && cond (state .started) (ltb 0 (state .run)) (eqb (state .run) 0)
+
+-- "all three are 0 for Off", and "for Off it is off"
+abbrev pub validOff : PhaseState → Bool
+validOff state = eqb (state .sum) 0 && eqb (state .run) 0 && eqb (state .drop) 0 && not (state .started)
+
 abbrev pub validFor : Kind → PhaseState → Bool
-validFor Off state = eqb (state .sum) 0 && eqb (state .run) 0 && eqb (state .drop) 0
-validFor (On Definite) state = eqb (state .sum) 0
-validFor (On (Curve rule)) state = true
+validFor Off state = validOff state
+validFor (On Definite) state = validDefinite state
+validFor (On (Curve rule)) state = validCurve state
 
 -- "Valid: sum at most the trip level; .."
 unfoldable pub valid : Settings → PhaseState → Bool

@@ -1,4 +1,4 @@
--- One phase tick (01, 'One phase tick'; 02, E3), rule by rule.
+-- One phase tick (01, 'One phase tick'; 02, E3 and E7), rule by rule.
 use Prim.Native.Nat.{ℕ, zero, suc, _+_, _-_, _*_, min}
 use mathlib.Core.Bool.{Bool, true, false, cond, _&&_}
 use mathlib.Core.List.{List, [], _∷_, _++_}
@@ -28,11 +28,11 @@ gainAt settings g = gainOf (settings .operation) (ratioOf g (settings .«start_c
 abbrev pub lossAt : Settings → ℕ → ℕ
 lossAt settings g = lossOf (settings .operation) (ratioOf g (settings .«start_current»))
 
--- 2. as E3 amends it: "a phase that was started on its last tick (run above 0) stays started while g is at least 95 x s; a phase
--- that wasn't still needs g greater than 100 x s."
+-- 2. as E3 amends it: "a phase that was started on its last tick .. stays started while g is at least 95 x s; a phase that wasn't
+-- still needs g greater than 100 x s." Which of them it is, its field tells (E7): "E3 reads that."
 unfoldable pub started : Settings → PhaseState → ℕ → Bool
 started settings state g =
-    cond (ltb 0 (state .run)) (leb (95 * settings .«start_current») g) (ltb (100 * settings .«start_current») g)
+    cond (state .started) (leb (95 * settings .«start_current») g) (ltb (100 * settings .«start_current») g)
 
 -- "goes up by 1 (stops at 60,000)", of run and of drop
 abbrev pub countUp : ℕ → ℕ
@@ -46,19 +46,35 @@ sumUp (Curve rule) settings g sum = min (sum + gainAt settings g) (tripLevel set
 -- 3. "Started: run goes up by 1 (stops at 60,000), drop becomes 0, a curve's sum goes up .."
 abbrev pub afterStarted : Timing → Settings → ℕ → PhaseState → PhaseState
 afterStarted timing settings g state =
-    record { sum = sumUp timing settings g (state .sum); run = countUp (state .run); drop = 0 }
+    record { sum = sumUp timing settings g (state .sum); run = countUp (state .run); drop = 0; started = true }
+
+-- what "becomes 0 once the new drop is at least the reset time, else it is kept"
+abbrev pub keptTill : Settings → ℕ → ℕ → ℕ
+keptTill settings newDrop n = cond (leb (settings .«reset_time») newDrop) 0 n
 
 -- 4. "IEC curves: sum becomes 0 once the new drop is at least the reset time, else it is kept.
 -- ANSI curves: sum goes down by the loss (stops at 0). Definite has no sum."
 abbrev pub sumDown : Timing → Settings → ℕ → ℕ → ℕ → ℕ
 sumDown Definite settings g newDrop sum = 0
-sumDown (Curve Iec) settings g newDrop sum = cond (leb (settings .«reset_time») newDrop) 0 sum
+sumDown (Curve Iec) settings g newDrop sum = keptTill settings newDrop sum
 sumDown (Curve Ansi) settings g newDrop sum = sum - lossAt settings g
 
--- 4. "Not started: run becomes 0, drop goes up by 1 (stops at 60,000). .."
+-- 4. as E7 amends it: "for operation 1 the run is now kept while the new drop is below the reset time, else becomes 0; for curves it
+-- still clears at once."
+abbrev pub runDown : Timing → Settings → ℕ → ℕ → ℕ
+runDown Definite settings newDrop run = keptTill settings newDrop run
+runDown (Curve rule) settings newDrop run = 0
+
+-- 4. "Not started: .. drop goes up by 1 (stops at 60,000). .."
 abbrev pub afterIdle : Timing → Settings → ℕ → PhaseState → PhaseState
 afterIdle timing settings g state =
-    record { sum = sumDown timing settings g (countUp (state .drop)) (state .sum); run = 0; drop = countUp (state .drop) }
+    let newDrop : ℕ = countUp (state .drop) in
+    record {
+      sum = sumDown timing settings g newDrop (state .sum);
+      run = runDown timing settings newDrop (state .run);
+      drop = newDrop;
+      started = false;
+    }
 
 -- 1. "Off: everything stays 0 and off.", else 3. or 4.
 abbrev pub nextBy : Kind → Bool → Settings → ℕ → PhaseState → PhaseState

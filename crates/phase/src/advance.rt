@@ -5,7 +5,7 @@ ghost use Rattle.phase.specs.device.Closed.{mostTicks, countAfter, sumUp
 ghost use Rattle.phase.specs.device.Pace.{Ready};
 ghost use Rattle.phase.specs.device.Ranges.{InRange};
 ghost use Rattle.phase.specs.State.{runLimit};
-ghost use Rattle.phase.specs.Tick.{started};
+ghost use Rattle.phase.specs.Tick.{runDown, started};
 use crate::operation::Kind;
 use crate::operation::ResetRule;
 use crate::operation::Timing;
@@ -14,12 +14,12 @@ use crate::settings::Settings;
 use crate::settings::trip_level;
 use crate::state::PhaseState;
 
-// Whether a tick with this sample is started: a phase that runs drops out below 95 %, one that doesn't starts above 100 %.
+// Whether a tick with this sample is started: a phase that was drops out below 95 %, one that wasn't starts above 100 %.
 pub fn is_started(settings: Settings, state: PhaseState, sample: u32) -> bool
     requires { ⌜ InRange settings ⌝ }
     ensures { λ r. ⌜ r ≡ started settings state sample ⌝ }
 {
-    if 0 < state.run {
+    if state.started {
         95 * settings.start_current <= sample
     } else {
         100 * settings.start_current < sample
@@ -105,6 +105,16 @@ fn sum_down_after(
     }
 }
 
+// What an idle phase keeps of its run.
+fn run_down(timing: Timing, settings: Settings, drop: u32, run: u32) -> u32
+    ensures { λ r. ⌜ r ≡ runDown timing settings drop run ⌝ }
+{
+    match timing {
+        Timing::Definite => if settings.reset_time <= drop { 0 } else { run },
+        Timing::Curve(_) => 0,
+    }
+}
+
 fn advance_on(
     timing: Timing,
     settings: Settings,
@@ -119,11 +129,22 @@ fn advance_on(
     if is_started(settings, state, pace.sample) {
         let sum = sum_up_after(timing, settings, pace, n, state);
         let run = count_after(n, state.run);
-        PhaseState { sum, run, drop: 0 }
+        PhaseState {
+            sum,
+            run,
+            drop: 0,
+            started: true,
+        }
     } else {
         let drop = count_after(n, state.drop);
         let sum = sum_down_after(timing, settings, pace, n, drop, state);
-        PhaseState { sum, run: 0, drop }
+        let run = run_down(timing, settings, drop, state.run);
+        PhaseState {
+            sum,
+            run,
+            drop,
+            started: false,
+        }
     }
 }
 

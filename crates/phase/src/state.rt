@@ -1,16 +1,18 @@
 // The phase state: what one phase keeps from tick to tick.
 ghost use mathlib.Core.Path.{_≡_};
-ghost use Rattle.phase.specs.State.{clearState, valid, validCounts, validFor};
+ghost use Rattle.phase.specs.State.{clearState, valid, validCounts, validCurve, validDefinite, validFor, validOff};
 use crate::operation::Kind;
 use crate::operation::Timing;
 use crate::operation::kind_of;
 use crate::settings::Settings;
 use crate::settings::trip_level;
 
+// `started` is whether the phase was started on its last tick.
 pub struct PhaseState {
     pub sum: u64,
     pub run: u32,
     pub drop: u32,
+    pub started: bool,
 }
 
 impl PhaseState {
@@ -24,6 +26,7 @@ impl PhaseState {
             sum: 0,
             run: 0,
             drop: 0,
+            started: false,
         }
     }
 }
@@ -31,36 +34,39 @@ impl PhaseState {
 fn valid_counts(state: PhaseState) -> bool
     ensures { λ r. ⌜ r ≡ validCounts state ⌝ }
 {
-    if PhaseState::RUN_LIMIT < state.run {
-        return false;
-    }
-    if PhaseState::RUN_LIMIT < state.drop {
-        return false;
-    }
-    if state.run == 0 {
-        return true;
-    }
-    state.drop == 0
+    (state.run <= PhaseState::RUN_LIMIT) & (state.drop <= PhaseState::RUN_LIMIT)
 }
 
-fn all_zero(state: PhaseState) -> bool
-    ensures { λ r. ⌜ r ≡ validFor Kind.Off state ⌝ }
+fn valid_off(state: PhaseState) -> bool
+    ensures { λ r. ⌜ r ≡ validOff state ⌝ }
 {
-    if state.sum != 0 {
-        return false;
-    }
-    if state.run != 0 {
-        return false;
-    }
-    state.drop == 0
+    (state.sum == 0) & (state.run == 0) & (state.drop == 0) & !state.started
 }
 
-fn valid_sum(timing: Timing, state: PhaseState) -> bool
+// A phase that is not started may keep its run through a drop.
+fn valid_definite(state: PhaseState) -> bool
+    ensures { λ r. ⌜ r ≡ validDefinite state ⌝ }
+{
+    (state.sum == 0) & (!state.started | ((state.drop == 0) & (0 < state.run)))
+}
+
+fn valid_curve(state: PhaseState) -> bool
+    ensures { λ r. ⌜ r ≡ validCurve state ⌝ }
+{
+    let apart = (state.run == 0) | (state.drop == 0);
+    if state.started {
+        apart & (0 < state.run)
+    } else {
+        apart & (state.run == 0)
+    }
+}
+
+fn valid_on(timing: Timing, state: PhaseState) -> bool
     ensures { λ r. ⌜ r ≡ validFor (Kind.On timing) state ⌝ }
 {
     match timing {
-        Timing::Definite => state.sum == 0,
-        Timing::Curve(_) => true,
+        Timing::Definite => valid_definite(state),
+        Timing::Curve(_) => valid_curve(state),
     }
 }
 
@@ -68,8 +74,8 @@ fn valid_for(kind: Kind, state: PhaseState) -> bool
     ensures { λ r. ⌜ r ≡ validFor kind state ⌝ }
 {
     match kind {
-        Kind::Off => all_zero(state),
-        Kind::On(timing) => valid_sum(timing, state),
+        Kind::Off => valid_off(state),
+        Kind::On(timing) => valid_on(timing, state),
     }
 }
 

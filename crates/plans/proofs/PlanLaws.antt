@@ -24,6 +24,7 @@ use Rattle.phase.specs.Settings.{tripLevel}
 use Rattle.phase.specs.Tick.{gainAt, lossAt, started, countUp, afterStarted, afterIdle, nextBy, nextState, startBy, phaseStart, due, tripBy, phaseTrip}
 use Rattle.phase.proofs.Accepted.{valid-in-limits, valid-kind}
 use Rattle.phase.proofs.PaceLaws.{level-small}
+use Rattle.phase.proofs.StateLaws.{definite-sum, off-is-clear}
 use Rattle.plans.specs.declared.memo.Memo.{Memo}
 use Rattle.plans.specs.declared.plan.Plan.{Plan}
 use Rattle.plans.specs.declared.course.Course.{Course}
@@ -55,20 +56,17 @@ above : (n g : ℕ) → 0 < n → ltb (n - 1) g ≡ leb n g
 above n g pos =
     by-cond (λ (x : ℕ). ltb (n - 1) g ≡ leb n g) (leb n g) 0 0 (λ t. rw (t, lt-ltb (n - 1) g (omega (arith, leb-true n g t)))) (λ t. rw (t, le-ltb (n - 1) g (omega (arith, leb-false n g t))))
 
-on-started : (timing : Timing) (settings : Settings) (state : PhaseState) (g : ℕ) → 0 < settings .«start_current» → ltb (idleTo (onPlan timing settings) (state .run)) g ≡ started settings state g
+on-started : (timing : Timing) (settings : Settings) (state : PhaseState) (g : ℕ) → 0 < settings .«start_current» → ltb (idleTo (onPlan timing settings) (state .started)) g ≡ started settings state g
 unfolding started
-on-started timing settings state g pos = go (ltb 0 (state .run))
+on-started timing settings state g pos = go (state .started)
   where
-    go : (ran : Bool) → ltb (cond ran (95 * settings .«start_current» - 1) (100 * settings .«start_current»)) g ≡ cond ran (leb (95 * settings .«start_current») g) (ltb (100 * settings .«start_current») g)
+    go : (was : Bool) → ltb (cond was (95 * settings .«start_current» - 1) (100 * settings .«start_current»)) g ≡ cond was (leb (95 * settings .«start_current») g) (ltb (100 * settings .«start_current») g)
     go true = above (95 * settings .«start_current») g (omega arith)
     go false = refl
 
-off-idle : (settings : Settings) (run g : ℕ) → g ≤ topSample → ltb (idleTo (offPlan settings) run) g ≡ false
-off-idle settings run g h = go (ltb 0 run)
-  where
-    go : (ran : Bool) → ltb (cond ran topSample topSample) g ≡ false
-    go true = le-ltb topSample g h
-    go false = le-ltb topSample g h
+off-idle : (settings : Settings) (was : Bool) (g : ℕ) → g ≤ topSample → ltb (idleTo (offPlan settings) was) g ≡ false
+off-idle settings true g h = le-ltb topSample g h
+off-idle settings false g h = le-ltb topSample g h
 
 -- ---- a started tick
 
@@ -109,24 +107,25 @@ iec-low op e = leb-true op 5 (go (eqb op 0) (eqb op 1) (leb op 5) (leb op 12) (a
     go false false false true t = absurd (false≢true t)
     go false false false false t = absurd (false≢true t)
 
+always : (newDrop : ℕ) → leb 0 newDrop ≡ true
+always newDrop = le-leb 0 newDrop (omega arith)
+
 after-idle : (timing : Timing) (settings : Settings) (g : ℕ) (state : PhaseState) → kindOf (settings .operation) ≡ On timing → state .drop ≤ runLimit → validFor (On timing) state ≡ true → afterIdleBy (onPlan timing settings) (lossAt settings g) state ≡ afterIdle timing settings g state
 after-idle Definite settings g state kind h v =
     let new = count-up (state .drop) h in
     let never : leb noCount (countUp (state .drop)) ≡ false = lt-leb noCount (countUp (state .drop)) (omega arith) in
-    rw (new, never, eqb-true (state .sum) 0 v, zero-sub (lossAt settings g))
+    rw (new, never, definite-sum state v, zero-sub (lossAt settings g))
 after-idle (Curve Iec) settings g state kind h v =
     let none : lossAt settings g ≡ 0 = no-loss-to-5 (settings .operation) _ (iec-low (settings .operation) kind) in
-    rw (none, sub-zero (state .sum), count-up (state .drop) h)
+    rw (none, sub-zero (state .sum), count-up (state .drop) h, always (countUp (state .drop)))
 after-idle (Curve Ansi) settings g state kind h v =
     let new = count-up (state .drop) h in
     let never : leb noCount (countUp (state .drop)) ≡ false = lt-leb noCount (countUp (state .drop)) (omega arith) in
-    rw (new, never)
+    rw (new, never, always (countUp (state .drop)))
 
 off-stays : (settings : Settings) (loss : ℕ) (state : PhaseState) → validFor Off state ≡ true → afterIdleBy (offPlan settings) loss state ≡ clearState
 off-stays settings loss state v =
-    let (front, drop) = both-true (eqb (state .sum) 0 && eqb (state .run) 0) (eqb (state .drop) 0) v in
-    let (sum, run) = both-true (eqb (state .sum) 0) (eqb (state .run) 0) front in
-    rw (eqb-true (state .sum) 0 sum, eqb-true (state .drop) 0 drop, zero-sub loss)
+    rw (off-is-clear state v, zero-sub loss)
 
 -- ---- the tick
 
@@ -138,10 +137,10 @@ tickBy kind b settings state g =
       trip = tripBy kind b settings (nextBy kind b settings g state);
     }
 
-abbrev startedTurn : Plan → Settings → ℕ → PhaseState → (trip runs : Bool) → Turned
-startedTurn plan settings g after trip runs =
+abbrev startedTurn : Plan → Settings → ℕ → PhaseState → Bool → Turned
+startedTurn plan settings g after trip =
     record {
-      course = record { state = after; memo = memoOf settings g; «idle_to» = cond runs (plan .«stays_above») (plan .«starts_above») };
+      course = record { state = after; memo = memoOf settings g; «idle_to» = plan .«stays_above» };
       start = true;
       trip = trip;
     }
@@ -151,20 +150,18 @@ unfolding memoOf
 on-turns timing true settings state g kind limits v =
     let plan : Plan = onPlan timing settings in
     let after : PhaseState = afterStarted timing settings g state in
-    let runs : true ≡ ltb 0 (after .run) = sym (lt-ltb 0 (after .run) (omega arith)) in
-    ap (λ (x : PhaseState). startedTurn plan settings g x (dueBy plan x) true) (after-started timing settings g state (limits .run))
-    ∙ ap (λ (t : Bool). startedTurn plan settings g after t true) (due-now timing settings after (omega arith))
-    ∙ ap (λ (b : Bool). startedTurn plan settings g after (eqb (settings .«start_only») 0 && due timing settings after) b) runs
+    ap (λ (x : PhaseState). startedTurn plan settings g x (dueBy plan x)) (after-started timing settings g state (limits .run))
+    ∙ ap (startedTurn plan settings g after) (due-now timing settings after (omega arith))
 on-turns timing false settings state g kind limits v =
     rw (after-idle timing settings g state kind (limits .drop) v)
 
-by-kind : (kind : Kind) (settings : Settings) (state : PhaseState) (g : ℕ) → kindOf (settings .operation) ≡ kind → 0 < settings .«start_current» → g ≤ topSample → InLimits settings state → validFor kind state ≡ true → turnBy (planBy kind settings) (memoOf settings g) (ltb (idleTo (planBy kind settings) (state .run)) g) state ≡ tickBy kind (started settings state g) settings state g
+by-kind : (kind : Kind) (settings : Settings) (state : PhaseState) (g : ℕ) → kindOf (settings .operation) ≡ kind → 0 < settings .«start_current» → g ≤ topSample → InLimits settings state → validFor kind state ≡ true → turnBy (planBy kind settings) (memoOf settings g) (ltb (idleTo (planBy kind settings) (state .started)) g) state ≡ tickBy kind (started settings state g) settings state g
 by-kind Off settings state g kind pos h limits v =
-    rw (off-idle settings (state .run) g h, off-stays settings (memoOf settings g .loss) state v)
+    rw (off-idle settings (state .started) g h, off-stays settings (memoOf settings g .loss) state v)
 by-kind (On timing) settings state g kind pos h limits v =
     rw (on-started timing settings state g pos) (on-turns timing (started settings state g) settings state g kind limits v)
 
-plan-turns : (settings : Settings) (state : PhaseState) (g : ℕ) → 0 < settings .«start_current» → g ≤ topSample → valid settings state ≡ true → turnBy (planOf settings) (memoOf settings g) (ltb (idleTo (planOf settings) (state .run)) g) state ≡ turnedOf settings state g
+plan-turns : (settings : Settings) (state : PhaseState) (g : ℕ) → 0 < settings .«start_current» → g ≤ topSample → valid settings state ≡ true → turnBy (planOf settings) (memoOf settings g) (ltb (idleTo (planOf settings) (state .started)) g) state ≡ turnedOf settings state g
 unfolding planOf nextState phaseStart phaseTrip
 plan-turns settings state g pos h v =
     by-kind (kindOf (settings .operation)) settings state g refl pos h (valid-in-limits settings state v) (valid-kind settings state v)
@@ -174,8 +171,8 @@ pub turned-by : (plan : Plan) (course : Course) (memo : Memo) (b : Bool) (g : �
 turned-by plan course memo b g ready h m e =
     let state : PhaseState = course .state in
     ap (λ (x : Bool). turnBy plan memo x state) (sym e ∙ ap (λ (x : ℕ). ltb x g) (ready .remembers .idle))
-    ∙ ap (λ (x : Memo). turnBy plan x (ltb (idleTo (planOf (plan .settings)) (state .run)) g) state) m
-    ∙ ap (λ (p : Plan). turnBy p (memoOf (plan .settings) g) (ltb (idleTo (planOf (plan .settings)) (state .run)) g) state) (ready .planned)
+    ∙ ap (λ (x : Memo). turnBy plan x (ltb (idleTo (planOf (plan .settings)) (state .started)) g) state) m
+    ∙ ap (λ (p : Plan). turnBy p (memoOf (plan .settings) g) (ltb (idleTo (planOf (plan .settings)) (state .started)) g) state) (ready .planned)
     ∙ plan-turns (plan .settings) state g (omega (arith, ready .range .start-low)) h (ready .valid)
 
 -- ---- how large the numbers of a tick are

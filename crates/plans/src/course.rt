@@ -27,11 +27,11 @@ pub struct Turned {
     pub trip: bool,
 }
 
-// The largest sample that the next tick is idle with, after such a run.
-fn idle_to(plan: Plan, run: u32) -> u32
-    ensures { λ r. ⌜ r ≡ idleTo plan run ⌝ }
+// The largest sample that the next tick is idle with, of a phase that was started on its last tick or was not.
+fn idle_to(plan: Plan, started: bool) -> u32
+    ensures { λ r. ⌜ r ≡ idleTo plan started ⌝ }
 {
-    if 0 < run {
+    if started {
         plan.stays_above
     } else {
         plan.starts_above
@@ -44,7 +44,7 @@ pub fn course_from(plan: Plan, state: PhaseState) -> Course
     ensures { λ r. ⌜ r ≡ courseOf (plan .settings) state (100 * plan .settings .«start_current») ⌝ }
 {
     let memo = memo_at_setting(plan.settings);
-    let idle_to = idle_to(plan, state.run);
+    let idle_to = idle_to(plan, state.started);
     Course {
         state,
         memo,
@@ -75,10 +75,17 @@ fn drained(sum: u64, loss: u64) -> u64
 }
 
 // What is left of a sum with the new drop.
-fn kept(reset: u32, drop: u32, left: u64) -> u64
+fn kept_sum(reset: u32, drop: u32, left: u64) -> u64
     ensures { λ r. ⌜ r ≡ cond (leb reset drop) 0 left ⌝ }
 {
     if reset <= drop { 0 } else { left }
+}
+
+// What is left of a run.
+fn kept_run(reset: u32, drop: u32, run: u32) -> u32
+    ensures { λ r. ⌜ r ≡ cond (leb reset drop) 0 run ⌝ }
+{
+    if reset <= drop { 0 } else { run }
 }
 
 fn after_started(plan: Plan, gain: u64, state: PhaseState) -> PhaseState
@@ -87,7 +94,12 @@ fn after_started(plan: Plan, gain: u64, state: PhaseState) -> PhaseState
 {
     let sum = filled(state.sum, gain, plan.level);
     let run = count_to(PhaseState::RUN_LIMIT, state.run);
-    PhaseState { sum, run, drop: 0 }
+    PhaseState {
+        sum,
+        run,
+        drop: 0,
+        started: true,
+    }
 }
 
 fn after_idle(plan: Plan, loss: u64, state: PhaseState) -> PhaseState
@@ -96,8 +108,14 @@ fn after_idle(plan: Plan, loss: u64, state: PhaseState) -> PhaseState
 {
     let drop = count_to(plan.drop_limit, state.drop);
     let left = drained(state.sum, loss);
-    let sum = kept(plan.reset, drop, left);
-    PhaseState { sum, run: 0, drop }
+    let sum = kept_sum(plan.sum_reset, drop, left);
+    let run = kept_run(plan.run_reset, drop, state.run);
+    PhaseState {
+        sum,
+        run,
+        drop,
+        started: false,
+    }
 }
 
 fn is_due(plan: Plan, after: PhaseState) -> bool

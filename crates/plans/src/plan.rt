@@ -1,7 +1,8 @@
 // What the settings come to, so that a tick asks for no group of operations.
 ghost use mathlib.Core.Path.{_≡_};
 ghost use Rattle.phase.specs.device.Ranges.{InRange};
-ghost use Rattle.plans.specs.device.Plan.{levelOf, delayOf, resetBy, resetOf, onPlan, offPlan, planOf};
+ghost use Rattle.plans.specs.device.Plan.{levelOf, delayOf, sumResetBy, sumResetOf, runResetOf};
+ghost use Rattle.plans.specs.device.Plan.{onPlan, offPlan, planOf};
 use crate::memo::TOP_SAMPLE;
 use phase::PhaseState;
 use phase::Settings;
@@ -14,15 +15,16 @@ use phase::settings::trip_level;
 // No count gets so far.
 const NO_COUNT: u32 = PhaseState::RUN_LIMIT + 1;
 
-// The largest samples that leave a phase idle, one that does not run and one that runs; the sum and the run that a trip takes; the
-// drop that clears the sum, and where drop stops.
+// The largest samples that leave a phase idle, one that was not started and one that was; the sum and the run that a trip takes; the
+// drops that clear the sum and the run, and where drop stops.
 pub struct Plan {
     pub settings: Settings,
     pub starts_above: u32,
     pub stays_above: u32,
     pub level: u64,
     pub delay: u32,
-    pub reset: u32,
+    pub sum_reset: u32,
+    pub run_reset: u32,
     pub drop_limit: u32,
 }
 
@@ -49,8 +51,8 @@ fn delay_of(timing: Timing, settings: Settings) -> u32
     }
 }
 
-fn reset_by(rule: ResetRule, settings: Settings) -> u32
-    ensures { λ r. ⌜ r ≡ resetBy rule settings ⌝ }
+fn sum_reset_by(rule: ResetRule, settings: Settings) -> u32
+    ensures { λ r. ⌜ r ≡ sumResetBy rule settings ⌝ }
 {
     match rule {
         ResetRule::Iec => settings.reset_time,
@@ -58,12 +60,22 @@ fn reset_by(rule: ResetRule, settings: Settings) -> u32
     }
 }
 
-fn reset_of(timing: Timing, settings: Settings) -> u32
-    ensures { λ r. ⌜ r ≡ resetOf timing settings ⌝ }
+fn sum_reset_of(timing: Timing, settings: Settings) -> u32
+    ensures { λ r. ⌜ r ≡ sumResetOf timing settings ⌝ }
 {
     match timing {
         Timing::Definite => NO_COUNT,
-        Timing::Curve(rule) => reset_by(rule, settings),
+        Timing::Curve(rule) => sum_reset_by(rule, settings),
+    }
+}
+
+// The run of a curve is cleared at any drop.
+fn run_reset_of(timing: Timing, settings: Settings) -> u32
+    ensures { λ r. ⌜ r ≡ runResetOf timing settings ⌝ }
+{
+    match timing {
+        Timing::Definite => settings.reset_time,
+        Timing::Curve(_) => 0,
     }
 }
 
@@ -73,14 +85,16 @@ fn on_plan(timing: Timing, settings: Settings) -> Plan
 {
     let level = level_of(timing, settings);
     let delay = delay_of(timing, settings);
-    let reset = reset_of(timing, settings);
+    let sum_reset = sum_reset_of(timing, settings);
+    let run_reset = run_reset_of(timing, settings);
     Plan {
         settings,
         starts_above: 100 * settings.start_current,
         stays_above: 95 * settings.start_current - 1,
         level,
         delay,
-        reset,
+        sum_reset,
+        run_reset,
         drop_limit: PhaseState::RUN_LIMIT,
     }
 }
@@ -95,7 +109,8 @@ fn off_plan(settings: Settings) -> Plan
         stays_above: TOP_SAMPLE,
         level: 0,
         delay: NO_COUNT,
-        reset: NO_COUNT,
+        sum_reset: NO_COUNT,
+        run_reset: 0,
         drop_limit: 0,
     }
 }

@@ -257,10 +257,10 @@ lacks reached due n h =
 
 -- the state after the tick with so many more ticks running, or so much more sum, and all else as it is
 abbrev pub moreTicks : PhaseState → ℕ → PhaseState
-moreTicks state more = record { sum = state .sum; run = state .run + more; drop = state .drop }
+moreTicks state more = record { sum = state .sum; run = state .run + more; drop = state .drop; started = state .started }
 
 abbrev pub moreSum : PhaseState → ℕ → PhaseState
-moreSum state more = record { sum = state .sum + more; run = state .run; drop = state .drop }
+moreSum state more = record { sum = state .sum + more; run = state .run; drop = state .drop; started = state .started }
 
 module _ (settings : Settings) (state : PhaseState) (g block : ℕ) (only-bit : settings .«start_only» ≤ 1) (n : ℕ) where
   -- whether a reason would hold after the tick, were the state another one

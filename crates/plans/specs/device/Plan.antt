@@ -30,13 +30,18 @@ waitOf (Curve rule) settings = settings .«minimum_delay»
 abbrev pub delayOf : Timing → Settings → ℕ
 delayOf timing settings = cond (eqb (settings .«start_only») 0) (waitOf timing settings) noCount
 
-abbrev pub resetBy : ResetRule → Settings → ℕ
-resetBy Iec settings = settings .«reset_time»
-resetBy Ansi settings = noCount
+abbrev pub sumResetBy : ResetRule → Settings → ℕ
+sumResetBy Iec settings = settings .«reset_time»
+sumResetBy Ansi settings = noCount
 
-abbrev pub resetOf : Timing → Settings → ℕ
-resetOf Definite settings = noCount
-resetOf (Curve rule) settings = resetBy rule settings
+abbrev pub sumResetOf : Timing → Settings → ℕ
+sumResetOf Definite settings = noCount
+sumResetOf (Curve rule) settings = sumResetBy rule settings
+
+-- the run of a curve is cleared at any drop
+abbrev pub runResetOf : Timing → Settings → ℕ
+runResetOf Definite settings = settings .«reset_time»
+runResetOf (Curve rule) settings = 0
 
 abbrev pub onPlan : Timing → Settings → Plan
 onPlan timing settings =
@@ -46,7 +51,8 @@ onPlan timing settings =
       «stays_above» = 95 * settings .«start_current» - 1;
       level = levelOf timing settings;
       delay = delayOf timing settings;
-      reset = resetOf timing settings;
+      «sum_reset» = sumResetOf timing settings;
+      «run_reset» = runResetOf timing settings;
       «drop_limit» = runLimit;
     }
 
@@ -58,7 +64,8 @@ offPlan settings =
       «stays_above» = topSample;
       level = 0;
       delay = noCount;
-      reset = noCount;
+      «sum_reset» = noCount;
+      «run_reset» = 0;
       «drop_limit» = 0;
     }
 

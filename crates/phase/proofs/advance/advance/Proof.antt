@@ -17,7 +17,7 @@ advance-on-requires : tie.Need-advance-on-requires
 advance-on-requires c κs = search needs
 
 returns : tie.Need-returns
-returns c = search needs
+returns c = rw (c .before .enum-told .given .1) (c .clear .ensures)
 
 returns-2 : tie.Need-returns-2
 returns-2 c = rw (c .before .before .kind .given .1) (c .advance-on .ensures)

@@ -20,11 +20,14 @@ count-after-requires-2 c κs = search needs
 sum-down-after-requires : tie.Need-sum-down-after-requires
 sum-down-after-requires c κs = search needs
 
+run-down-requires : tie.Need-run-down-requires
+run-down-requires c κs = search needs
+
 returns : tie.Need-returns
 returns c = rw (sym (c .before .before .before .is-started .ensures) ∙ c .before .before .if1 .taken) (rw (c .count-after .ensures, c .before .sum-up-after .ensures))
 
 returns-2 : tie.Need-returns-2
-returns-2 c = rw (sym (c .before .before .before .is-started .ensures) ∙ c .before .before .if1 .left) (rw (c .sum-down-after .ensures, c .before .count-after2 .ensures))
+returns-2 c = rw (sym (c .before .before .before .before .is-started .ensures) ∙ c .before .before .before .if1 .left) (rw (c .run-down .ensures, c .before .sum-down-after .ensures, c .before .before .count-after2 .ensures))
 
 pub advance-on-spec : {M : Type 1} → statement M
 advance-on-spec =
@@ -35,5 +38,6 @@ advance-on-spec =
     count-after-requires
     count-after-requires-2
     sum-down-after-requires
+    run-down-requires
     returns
     returns-2)

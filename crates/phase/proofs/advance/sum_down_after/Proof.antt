@@ -14,7 +14,7 @@ curve-down-after-requires : tie.Need-curve-down-after-requires
 curve-down-after-requires c κs = search needs
 
 returns : tie.Need-returns
-returns c = search needs
+returns c = rw (c .enum-told .given .1)
 
 returns-2 : tie.Need-returns-2
 returns-2 c = rw (c .before .before .timing .given .1) (c .curve-down-after .ensures)

@@ -10,11 +10,16 @@ count-to-requires c κs = search needs
 drained-requires : tie.Need-drained-requires
 drained-requires c κs = search needs
 
-kept-requires : tie.Need-kept-requires
-kept-requires c κs = search needs
+kept-sum-requires : tie.Need-kept-sum-requires
+kept-sum-requires c κs = search needs
+
+kept-run-requires : tie.Need-kept-run-requires
+kept-run-requires c κs = search needs
 
 returns : tie.Need-returns
-returns c = rw (c .kept .ensures, c .before .drained .ensures, c .before .before .count-to .ensures)
+returns c = rw (c .kept-run .ensures, c .before .kept-sum .ensures, c .before .before .drained .ensures, c .before .before .before .count-to .ensures)
 
 pub after-idle-spec : {M : Type 1} → statement M
-after-idle-spec = tie.close (tie.spec count-to-requires drained-requires kept-requires returns)
+after-idle-spec =
+    tie.close
+    (tie.spec count-to-requires drained-requires kept-sum-requires kept-run-requires returns)
