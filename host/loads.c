@@ -1,5 +1,4 @@
 #include "loads.h"
-#include "overcurrent.h"
 #include "plain.h"
 
 #include <string.h>

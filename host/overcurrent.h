@@ -96,7 +96,7 @@ enum oc_refusal {
  *
  * Unless the operation is Off, a phase starts at a current above
  * 100 x start_current and stays started until one is below 95 x start_current.
- * Whether it was started on its last tick, `started` in its state tells. `run`
+ * `started` in its state tells whether it was started on its last tick; `run`
  * does not: on Definite an idle phase keeps its run while drop is below
  * reset_time, and goes on from it where it starts again. On a curve the first
  * idle tick clears the run.

@@ -277,7 +277,7 @@ static uint32_t read_row(uint32_t last_number, struct row *row)
 
 /*
  * "the first reason that holds in this order", by document 01's rules from the
- * phase after the tick, whose field tells whether it was started on it.
+ * phase after the tick, whose field tells whether it was started on that tick.
  */
 static void write_reason(const struct plain_settings *set, const struct plain_phase *phase,
                          uint64_t trip_level, uint8_t block)

@@ -125,7 +125,7 @@ static void set_state(int phase, uint64_t sum, uint32_t run, uint32_t drop, uint
     put_number(state + OC_STARTED_AT, started, 4);
 }
 
-/* Valid whatever the operation, but for Off: idle where it has not run. */
+/* Valid on every operation but Off, if the sum is: idle where it has not run. */
 static void set_running(int phase, uint64_t sum, uint32_t run)
 {
     set_state(phase, sum, run, 0, run > 0);
@@ -647,7 +647,7 @@ static void try_worked_reset(void)
         quiet_batch(ticks);
         set_running(0, 7407407, 1);
         try_batch(WORKED);
-        worked(get_number(lent[STATES], 8) == (ticks == 59 ? 7407407 : 0),
+        worked(get_number(lent[STATES] + OC_SUM_AT, 8) == (ticks == 59 ? 7407407 : 0),
                "59 idle ticks keep the sum, the 60th clears it");
     }
 }
@@ -662,7 +662,7 @@ static void try_worked_starts(void)
     try_batch(WORKED);
     worked(lent[OUT][0] == 64 + 4 + 2, "from clear, started exactly when g is greater than 100 x s");
     /* T = 135000 x 10000 / 1900 rounded up */
-    worked(get_number(lent[STATES] + 2 * OC_STATE_LENGTH, 8) == 100000000000000u / 710527,
+    worked(get_number(lent[STATES] + 2 * OC_STATE_LENGTH + OC_SUM_AT, 8) == 100000000000000u / 710527,
            "g = 4294967295 has m 2000 at s 3000");
 }
 
@@ -682,12 +682,12 @@ static void try_worked_drop_out(uint32_t operation)
     uint8_t l3_trips = operation == 1 ? 32 : 0;
     worked(lent[OUT][0] == 128 + 64 + 8 + 4 + 1 + l3_trips,
            "95 x s stays started, 95 x s - 1 drops out; a full sum trips there");
-    worked(get_number(lent[STATES] + 2 * OC_STATE_LENGTH, 8) == level / 2,
+    worked(get_number(lent[STATES] + 2 * OC_STATE_LENGTH + OC_SUM_AT, 8) == level / 2,
            "with m at 100 or less a started phase gains 0");
 }
 
 /* Whether the archive left this state. */
-static bool left(int phase, uint32_t run, uint32_t drop, uint32_t started)
+static bool state_left(int phase, uint32_t run, uint32_t drop, uint32_t started)
 {
     const uint8_t *state = lent[STATES] + OC_STATE_LENGTH * phase;
     return get_number(state + OC_SUM_AT, 8) == 0 && get_number(state + OC_RUN_AT, 4) == run
@@ -711,9 +711,9 @@ static void try_worked_kept_run(void)
     try_batch(WORKED);
     worked(lent[OUT][0] == 128 + 64 + 32 + 4,
            "a kept run does not start a phase at 97 %, and trips it above the setting");
-    worked(left(0, 39, 59, 0), "the run is kept while the new drop is below the reset time");
-    worked(left(1, 0, 60, 0), "the run becomes 0 once the new drop is the reset time");
-    worked(left(2, 40, 0, 1), "a start goes on from the kept run");
+    worked(state_left(0, 39, 59, 0), "the run is kept while the new drop is below the reset time");
+    worked(state_left(1, 0, 60, 0), "the run becomes 0 once the new drop is the reset time");
+    worked(state_left(2, 40, 0, 1), "a start goes on from the kept run");
 }
 
 /* Clear states but for L3's run and field, of which so many bytes are lent. */

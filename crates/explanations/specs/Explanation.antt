@@ -37,7 +37,8 @@ namedNumber word n = bytesOf word ++ decimal n
 abbrev pub stateText : PhaseState → List ℕ
 stateText state = namedNumber ", run " (state .run) ++ namedNumber ", drop " (state .drop) ++ namedNumber ", sum " (state .sum)
 
--- what a student needs to follow it: the sample, the state after the tick, and the trip level
+-- what a student needs to follow it: the sample, run, drop and sum after the tick, and the trip level; whether the phase is started,
+-- the reason tells
 abbrev pub numbersText : ℕ → PhaseState → ℕ → List ℕ
 numbersText sample after level =
     namedNumber "\tsample " sample ++ stateText after ++ namedNumber ", trip level " level ++ bytesOf "\n"

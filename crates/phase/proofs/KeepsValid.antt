@@ -33,37 +33,37 @@ kept-within : (settings : Settings) (newDrop n limit : ℕ) → n ≤ limit → 
 kept-within settings newDrop n limit h =
     by-cond (λ k. k ≤ limit) (leb (settings .«reset_time») newDrop) 0 n (λ t. omega arith) (λ t. h)
 
-sum-kept : (kind : Kind) (b : Bool) (settings : Settings) (g : ℕ) (state : PhaseState) → state .sum ≤ tripLevel settings → nextBy kind b settings g state .sum ≤ tripLevel settings
-sum-kept Off b settings g state h = omega arith
-sum-kept (On Definite) true settings g state h = omega arith
-sum-kept (On Definite) false settings g state h = omega arith
-sum-kept (On (Curve rule)) true settings g state h = omega arith
-sum-kept (On (Curve Iec)) false settings g state h =
+sum-within : (kind : Kind) (b : Bool) (settings : Settings) (g : ℕ) (state : PhaseState) → state .sum ≤ tripLevel settings → nextBy kind b settings g state .sum ≤ tripLevel settings
+sum-within Off b settings g state h = omega arith
+sum-within (On Definite) true settings g state h = omega arith
+sum-within (On Definite) false settings g state h = omega arith
+sum-within (On (Curve rule)) true settings g state h = omega arith
+sum-within (On (Curve Iec)) false settings g state h =
     kept-within settings (countUp (state .drop)) (state .sum) (tripLevel settings) h
-sum-kept (On (Curve Ansi)) false settings g state h = omega arith
+sum-within (On (Curve Ansi)) false settings g state h = omega arith
 
-run-kept : (kind : Kind) (b : Bool) (settings : Settings) (g : ℕ) (state : PhaseState) → state .run ≤ runLimit → nextBy kind b settings g state .run ≤ runLimit
-run-kept Off b settings g state h = omega arith
-run-kept (On timing) true settings g state h = omega arith
-run-kept (On Definite) false settings g state h = kept-within settings (countUp (state .drop)) (state .run) runLimit h
-run-kept (On (Curve rule)) false settings g state h = omega arith
+run-within : (kind : Kind) (b : Bool) (settings : Settings) (g : ℕ) (state : PhaseState) → state .run ≤ runLimit → nextBy kind b settings g state .run ≤ runLimit
+run-within Off b settings g state h = omega arith
+run-within (On timing) true settings g state h = omega arith
+run-within (On Definite) false settings g state h = kept-within settings (countUp (state .drop)) (state .run) runLimit h
+run-within (On (Curve rule)) false settings g state h = omega arith
 
-drop-kept : (kind : Kind) (b : Bool) (settings : Settings) (g : ℕ) (state : PhaseState) → nextBy kind b settings g state .drop ≤ runLimit
-drop-kept Off b settings g state = omega arith
-drop-kept (On timing) true settings g state = omega arith
-drop-kept (On timing) false settings g state = omega arith
+drop-within : (kind : Kind) (b : Bool) (settings : Settings) (g : ℕ) (state : PhaseState) → nextBy kind b settings g state .drop ≤ runLimit
+drop-within Off b settings g state = omega arith
+drop-within (On timing) true settings g state = omega arith
+drop-within (On timing) false settings g state = omega arith
 
 -- ---- what the group of operations asks
 
 -- a started tick leaves run above 0
-runs : (run : ℕ) → ltb 0 (countUp run) ≡ true
-runs run = lt-ltb 0 (countUp run) (omega arith)
+counts-above-0 : (run : ℕ) → ltb 0 (countUp run) ≡ true
+counts-above-0 run = lt-ltb 0 (countUp run) (omega arith)
 
 valid-after : (kind : Kind) (b : Bool) (settings : Settings) (g : ℕ) (state : PhaseState) → validFor kind (nextBy kind b settings g state) ≡ true
 valid-after Off b settings g state = refl
-valid-after (On Definite) true settings g state = runs (state .run)
+valid-after (On Definite) true settings g state = counts-above-0 (state .run)
 valid-after (On Definite) false settings g state = refl
-valid-after (On (Curve rule)) true settings g state = rw (runs (state .run), or-true (eqb (countUp (state .run)) 0))
+valid-after (On (Curve rule)) true settings g state = rw (counts-above-0 (state .run), or-true (eqb (countUp (state .run)) 0))
 valid-after (On (Curve rule)) false settings g state = refl
 
 zero-for : (kind : Kind) → validFor kind clearState ≡ true
@@ -85,9 +85,9 @@ tick-keeps-valid settings state g e =
     let before = valid-in-limits settings state e in
     let limits : InLimits settings (nextBy kind b settings g state) =
     record {
-      sum = sum-kept kind b settings g state (before .sum);
-      run = run-kept kind b settings g state (before .run);
-      drop = drop-kept kind b settings g state;
+      sum = sum-within kind b settings g state (before .sum);
+      run = run-within kind b settings g state (before .run);
+      drop = drop-within kind b settings g state;
     } in
     by-parts settings kind (nextBy kind b settings g state) limits (valid-after kind b settings g state)
 

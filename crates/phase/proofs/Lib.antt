@@ -2,6 +2,7 @@ pub mod PaceLaws
 pub mod StateLaws
 pub mod StartLaws
 pub mod Walk
+pub mod DipLaws
 pub mod Accepted
 pub mod KeepsValid
 pub mod LowestRefusals

@@ -1,5 +1,5 @@
--- The drop-out at 95 % (02, E3 and E7): over equal samples a phase stays started, or stays idle, and with m at 100 or less a started one
--- neither gains nor loses.
+-- The drop-out at 95 % (02, E3 and E7): the field is the last tick's start; over equal samples a phase stays started, or stays idle;
+-- and with m at 100 or less a started one neither gains nor loses.
 -- Assumes nothing.
 use Prim.Native.Nat.{ℕ, zero, suc, _*_, _≤_}
 use native.Mathlib.Omega.{arith}
@@ -22,6 +22,18 @@ use Rattle.phase.specs.Tick.{gainAt, started, nextBy, nextState, stateAf
 use Rattle.phase.proofs.Accepted.{valid-in-limits, valid-kind}
 use Rattle.phase.proofs.StateLaws.{definite-sum}
 
+-- ---- the field
+
+field-by : (kind : Kind) (b : Bool) (settings : Settings) (g : ℕ) (state : PhaseState) → nextBy kind b settings g state .started ≡ startBy kind b
+field-by Off b settings g state = refl
+field-by (On timing) true settings g state = refl
+field-by (On timing) false settings g state = refl
+
+-- every tick sets it to its own start
+pub field-is-start : (settings : Settings) (state : PhaseState) (g : ℕ) → nextState settings state g .started ≡ phaseStart settings state g
+unfolding nextState phaseStart
+field-is-start settings state g = field-by (kindOf (settings .operation)) (started settings state g) settings g state
+
 -- ---- equal samples
 
 -- a started phase has g at least 95 x s, whether it was started before or not
@@ -34,7 +46,7 @@ idle-low : (was : Bool) (s g : ℕ) → cond was (leb (95 * s) g) (ltb (100 * s)
 idle-low true s g e = le-ltb (100 * s) g (omega (arith, leb-false (95 * s) g e))
 idle-low false s g e = e
 
--- a tick leaves the field as it was started
+-- a started tick puts the field on, an idle one off: with the same sample the next tick is as this one
 on-again : (timing : Timing) (b : Bool) (settings : Settings) (g : ℕ) (state : PhaseState) → started settings state g ≡ b → started settings (nextBy (On timing) b settings g state) g ≡ b
 unfolding started
 on-again timing true settings g state e = started-high (state .started) (settings .«start_current») g e

@@ -11,11 +11,11 @@ use Rattle.phase.specs.declared.state.PhaseState.{PhaseState}
 use Rattle.phase.specs.Operation.{kindOf}
 use Rattle.phase.specs.Settings.{tripLevel}
 
--- "run and drop at most 60,000"
+-- where run and drop stop: "(stops at 60,000)"
 abbrev pub runLimit : ℕ
 runLimit = 60000
 
--- "The clear state is all zero."
+-- "The clear state is all zero.", its field off
 abbrev pub clearState : PhaseState
 clearState = record { sum = 0; run = 0; drop = 0; started = false }
 
@@ -23,7 +23,7 @@ clearState = record { sum = 0; run = 0; drop = 0; started = false }
 abbrev pub validCounts : PhaseState → Bool
 validCounts state = leb (state .run) runLimit && leb (state .drop) runLimit
 
--- "sum is 0 for Definite"; "on a started phase drop is 0 and run above 0", on one that is not both may be above 0
+-- "sum is 0 for Definite"; "for Definite, run and drop may both be above 0; on a started phase drop is 0 and run above 0"
 abbrev pub validDefinite : PhaseState → Bool
 validDefinite state = eqb (state .sum) 0 && (not (state .started) || (eqb (state .drop) 0 && ltb 0 (state .run)))
 

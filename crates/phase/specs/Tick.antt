@@ -59,8 +59,8 @@ sumDown Definite settings g newDrop sum = 0
 sumDown (Curve Iec) settings g newDrop sum = keptTill settings newDrop sum
 sumDown (Curve Ansi) settings g newDrop sum = sum - lossAt settings g
 
--- 4. as E7 amends it: "for operation 1 the run is now kept while the new drop is below the reset time, else becomes 0; for curves it
--- still clears at once."
+-- 4. as E7 amends it: "for operation 1 the run is now kept while the new drop is below the reset time, else becomes 0; for curves
+-- it still clears at once."
 abbrev pub runDown : Timing → Settings → ℕ → ℕ → ℕ
 runDown Definite settings newDrop run = keptTill settings newDrop run
 runDown (Curve rule) settings newDrop run = 0

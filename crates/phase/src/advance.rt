@@ -14,7 +14,8 @@ use crate::settings::Settings;
 use crate::settings::trip_level;
 use crate::state::PhaseState;
 
-// Whether a tick with this sample is started: a phase that was drops out below 95 %, one that wasn't starts above 100 %.
+// Whether a tick with this sample is started: a phase that was started on its last tick drops out below 95 %, one that was not starts
+// above 100 %.
 pub fn is_started(settings: Settings, state: PhaseState, sample: u32) -> bool
     requires { ⌜ InRange settings ⌝ }
     ensures { λ r. ⌜ r ≡ started settings state sample ⌝ }

@@ -43,7 +43,7 @@ fn valid_off(state: PhaseState) -> bool
     (state.sum == 0) & (state.run == 0) & (state.drop == 0) & !state.started
 }
 
-// A phase that is not started may keep its run through a drop.
+// One that is not started may have any run and any drop, also such as no ticks leave.
 fn valid_definite(state: PhaseState) -> bool
     ensures { λ r. ⌜ r ≡ validDefinite state ⌝ }
 {

@@ -5,10 +5,9 @@ use native.Mathlib.Nat.{sub-zero, zero-sub}
 use native.Mathlib.Omega.{arith}
 use mathlib.Core.Bool.{Bool, true, false, cond, _&&_, and-false, false≢true}
 use mathlib.Core.Path.{_≡_, refl, sym, ap, _∙_}
-use borrow.Author.Tests.{leb-true, leb-false, le-leb, lt-leb, lt-ltb, le-ltb, ltb-true, ltb-false, eqb-true}
+use borrow.Author.Tests.{leb-true, leb-false, le-leb, lt-leb, lt-ltb, le-ltb, ltb-true, ltb-false}
 use lib.Dec.{leb, ltb, eqb}
 use Rattle.checks.proofs.Cases.{by-cond}
-use Rattle.checks.proofs.Tests.{both-true}
 use Rattle.curve.proofs.GainLaws.{gain-at-most, no-loss-to-5}
 use Rattle.phase.specs.declared.operation.Kind.{Kind}
 use Rattle.phase.specs.declared.operation.Kind.the-variants.{Off, On}
@@ -52,6 +51,9 @@ count-up : (n : ℕ) → n ≤ runLimit → countTo runLimit n ≡ countUp n
 count-up n h =
     by-cond (λ (x : ℕ). x ≡ countUp n) (ltb n runLimit) (n + 1) n (λ t. let low = ltb-true n runLimit t in omega (arith, low)) (λ t. let high = ltb-false n runLimit t in omega (arith, h, high))
 
+zero-leb : (n : ℕ) → leb 0 n ≡ true
+zero-leb n = le-leb 0 n (omega arith)
+
 above : (n g : ℕ) → 0 < n → ltb (n - 1) g ≡ leb n g
 above n g pos =
     by-cond (λ (x : ℕ). ltb (n - 1) g ≡ leb n g) (leb n g) 0 0 (λ t. rw (t, lt-ltb (n - 1) g (omega (arith, leb-true n g t)))) (λ t. rw (t, le-ltb (n - 1) g (omega (arith, leb-false n g t))))
@@ -83,7 +85,7 @@ due-now timing settings after h = go timing (eqb (settings .«start_only») 0)
     never = lt-leb noCount (after .run) (omega (arith, h))
 
     go : (timing : Timing) (trips : Bool) → leb (levelOf timing settings) (after .sum) && leb (cond trips (waitOf timing settings) noCount) (after .run) ≡ trips && due timing settings after
-    go Definite true = rw (le-leb 0 (after .sum) (omega arith))
+    go Definite true = rw (zero-leb (after .sum))
     go (Curve rule) true = refl
     go Definite false = rw (never, and-false (leb 0 (after .sum)))
     go (Curve rule) false = rw (never, and-false (leb (tripLevel settings) (after .sum)))
@@ -107,9 +109,6 @@ iec-low op e = leb-true op 5 (go (eqb op 0) (eqb op 1) (leb op 5) (leb op 12) (a
     go false false false true t = absurd (false≢true t)
     go false false false false t = absurd (false≢true t)
 
-always : (newDrop : ℕ) → leb 0 newDrop ≡ true
-always newDrop = le-leb 0 newDrop (omega arith)
-
 after-idle : (timing : Timing) (settings : Settings) (g : ℕ) (state : PhaseState) → kindOf (settings .operation) ≡ On timing → state .drop ≤ runLimit → validFor (On timing) state ≡ true → afterIdleBy (onPlan timing settings) (lossAt settings g) state ≡ afterIdle timing settings g state
 after-idle Definite settings g state kind h v =
     let new = count-up (state .drop) h in
@@ -117,11 +116,11 @@ after-idle Definite settings g state kind h v =
     rw (new, never, definite-sum state v, zero-sub (lossAt settings g))
 after-idle (Curve Iec) settings g state kind h v =
     let none : lossAt settings g ≡ 0 = no-loss-to-5 (settings .operation) _ (iec-low (settings .operation) kind) in
-    rw (none, sub-zero (state .sum), count-up (state .drop) h, always (countUp (state .drop)))
+    rw (none, sub-zero (state .sum), count-up (state .drop) h, zero-leb (countUp (state .drop)))
 after-idle (Curve Ansi) settings g state kind h v =
     let new = count-up (state .drop) h in
     let never : leb noCount (countUp (state .drop)) ≡ false = lt-leb noCount (countUp (state .drop)) (omega arith) in
-    rw (new, never, always (countUp (state .drop)))
+    rw (new, never, zero-leb (countUp (state .drop)))
 
 off-stays : (settings : Settings) (loss : ℕ) (state : PhaseState) → validFor Off state ≡ true → afterIdleBy (offPlan settings) loss state ≡ clearState
 off-stays settings loss state v =

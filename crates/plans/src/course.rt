@@ -74,18 +74,11 @@ fn drained(sum: u64, loss: u64) -> u64
     if loss < sum { sum - loss } else { 0 }
 }
 
-// What is left of a sum with the new drop.
-fn kept_sum(reset: u32, drop: u32, left: u64) -> u64
-    ensures { λ r. ⌜ r ≡ cond (leb reset drop) 0 left ⌝ }
+// What is left of a sum, or of a run, with the new drop.
+fn kept(reset: u32, drop: u32, left: u64) -> u64
+    ensures { λ r. ⌜ (r ≡ cond (leb reset drop) 0 left) × (r ≤ left) ⌝ }
 {
     if reset <= drop { 0 } else { left }
-}
-
-// What is left of a run.
-fn kept_run(reset: u32, drop: u32, run: u32) -> u32
-    ensures { λ r. ⌜ r ≡ cond (leb reset drop) 0 run ⌝ }
-{
-    if reset <= drop { 0 } else { run }
 }
 
 fn after_started(plan: Plan, gain: u64, state: PhaseState) -> PhaseState
@@ -108,8 +101,8 @@ fn after_idle(plan: Plan, loss: u64, state: PhaseState) -> PhaseState
 {
     let drop = count_to(plan.drop_limit, state.drop);
     let left = drained(state.sum, loss);
-    let sum = kept_sum(plan.sum_reset, drop, left);
-    let run = kept_run(plan.run_reset, drop, state.run);
+    let sum = kept(plan.sum_reset, drop, left);
+    let run = kept(plan.run_reset, drop, state.run as u64) as u32;
     PhaseState {
         sum,
         run,

@@ -10,16 +10,29 @@ count-to-requires c κs = search needs
 drained-requires : tie.Need-drained-requires
 drained-requires c κs = search needs
 
-kept-sum-requires : tie.Need-kept-sum-requires
-kept-sum-requires c κs = search needs
+kept-requires : tie.Need-kept-requires
+kept-requires c κs = search needs
 
-kept-run-requires : tie.Need-kept-run-requires
-kept-run-requires c κs = search needs
+cast-kept : tie.Need-cast-kept
+cast-kept c = search needs
+
+kept-requires-2 : tie.Need-kept-requires-2
+kept-requires-2 c κs = search needs
+
+cast-run : tie.Need-cast-run
+cast-run c = search needs
 
 returns : tie.Need-returns
-returns c = rw (c .kept-run .ensures, c .before .kept-sum .ensures, c .before .before .drained .ensures, c .before .before .before .count-to .ensures)
+returns c = rw (c .kept2 .ensures .0, c .before .before .kept .ensures .0, c .before .before .before .drained .ensures, c .before .before .before .before .count-to .ensures)
 
 pub after-idle-spec : {M : Type 1} → statement M
 after-idle-spec =
     tie.close
-    (tie.spec count-to-requires drained-requires kept-sum-requires kept-run-requires returns)
+    (tie.spec
+    count-to-requires
+    drained-requires
+    kept-requires
+    cast-kept
+    kept-requires-2
+    cast-run
+    returns)
