@@ -33,6 +33,7 @@ static const struct {
     {"mixed, 0.02, changing", "1.2 shifting", OC_IEC_INV, &mixed, CHANGING},
     {"mixed, power 2, changing", "1.2 shifting", OC_ANSI_EXT_INV, &mixed, CHANGING},
     {"definite, changing", "1.0", OC_DEFINITE, &counting, CHANGING},
+    {"definite, mixed, changing", "1.0", OC_DEFINITE, &mixed, CHANGING},
     {"off, changing", "40 a tick", OC_OFF, &counting, CHANGING},
     {"0.02, wandering slowly", "1.0", OC_IEC_INV, &wandering, WANDERING},
 };

@@ -17,7 +17,7 @@
  * for one of them. A batch works one out where a sample of a phase has another
  * ratio to the start current than the sample before, and for the first of the
  * batch; on definite time never, and on IEC curves only above the setting. So a
- * batch of one tick takes some 700 to 2,000 instructions.
+ * batch of one tick takes some 750 to 2,100 instructions.
  */
 #ifndef OVERCURRENT_H
 #define OVERCURRENT_H
