@@ -3,3 +3,4 @@ pub mod RoundingLaws
 pub mod TimeLaws
 pub mod RatioLaws
 pub mod GainLaws
+pub mod OrderLaws

@@ -1,7 +1,7 @@
--- The samples of a ratio, for the layers above.
+-- The samples of a ratio, and its order, for the layers above.
 -- Assumes nothing.
 use Prim.Native.Nat.{ℕ, _+_, _*_, _/_, _≤_, _<_}
-use native.Mathlib.Nat.{div-eq-of-lt-le, div-lt-iff-lt-mul, le-div-iff-mul-le}
+use native.Mathlib.Nat.{div-eq-of-lt-le, div-lt-iff-lt-mul, div-mul-le-self, le-div-iff-mul-le, le-trans}
 use native.Mathlib.Omega.{arith}
 use mathlib.Core.Path.{_≡_}
 use Rattle.curve.specs.Ratio.{ratioOf}
@@ -25,3 +25,15 @@ ratio-between g s m cap low high =
 pub ratio-from-cap : (g s : ℕ) → 0 < s → 2000 * s ≤ g → ratioOf g s ≡ 2000
 unfolding ratioOf
 ratio-from-cap g s pos low = omega (arith, le-div-iff-mul-le pos .1 low)
+
+-- ---- its order
+
+pub ratio-never-falls : (g h s : ℕ) → 0 < s → g ≤ h → ratioOf g s ≤ ratioOf h s
+unfolding ratioOf
+ratio-never-falls g h s pos more =
+    let quotient : g / s ≤ h / s = le-div-iff-mul-le pos .1 (le-trans (div-mul-le-self g s) more) in
+    omega arith
+
+pub ratio-reached : (g s m : ℕ) → 0 < s → m ≤ ratioOf g s → m * s ≤ g
+unfolding ratioOf
+ratio-reached g s m pos low = le-div-iff-mul-le pos .0 (omega arith)

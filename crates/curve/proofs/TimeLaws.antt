@@ -1,7 +1,7 @@
 -- How large the constants of the curves and their times are.
 -- Assumes nothing.
 use Prim.Native.Nat.{ℕ, _+_, _-_, _*_, _^_, _≤_, _<_}
-use native.Mathlib.Nat.{mul-le-mul}
+use native.Mathlib.Nat.{le-trans, mul-le-mul}
 use native.Mathlib.Omega.{arith}
 use mathlib.Core.Bool.{Bool, true, false, _&&_, and-false}
 use mathlib.Core.Path.{_≡_, refl}
@@ -9,7 +9,6 @@ use borrow.Author.Tests.{leb-true, le-leb, lt-leb}
 use lib.Dec.{leb}
 use Rattle.checks.specs.Range.{inRange}
 use Rattle.checks.proofs.Tests.{both-true, in-range, is-in-range, below-range, above-range}
-use Rattle.powers.specs.Power.{X}
 use Rattle.powers.proofs.PowerRule.{X-at-most, X-at-least}
 use Rattle.powers.proofs.Tables.{below-passes}
 use Rattle.curve.specs.declared.constants.Power.{Power}
@@ -68,17 +67,16 @@ square-below m h = mul-le-mul h h
 
 inverse-at-least : (a : Power) (k m : ℕ) → leastK a ≤ k → 101 ≤ m → m ≤ 2000 → 100 ≤ inversePart a k m
 inverse-at-least Fiftieth k m h low high =
-    rounded-up-at-least 100 (k * X m) 10000 (omega arith) (omega (arith, mul-le-mul h (X-at-least m low high)))
-inverse-at-least First k m h low high = rounded-up-at-least 100 (k * 10000) (m - 100) (omega arith) (omega arith)
+    rounded-up-at-least 100 _ _ (omega arith) (omega (arith, mul-le-mul h (X-at-least m low high)))
+inverse-at-least First k m h low high = rounded-up-at-least 100 _ _ (omega arith) (omega arith)
 inverse-at-least Second k m h low high =
     let square = square-above m low high in
-    rounded-up-at-least 100 (k * 1000000) (m * m - 10000) (omega arith) (omega arith)
+    rounded-up-at-least 100 _ _ (omega arith) (omega arith)
 
 pub inverse-at-most : (a : Power) (k m : ℕ) → k ≤ 10000000 → inversePart a k m ≤ 10 ^ 17 + 1
-inverse-at-most Fiftieth k m h =
-    omega (arith, rounded-up-at-most (k * X m) 10000, mul-le-mul h (X-at-most m))
-inverse-at-most First k m h = omega (arith, rounded-up-at-most (k * 10000) (m - 100))
-inverse-at-most Second k m h = omega (arith, rounded-up-at-most (k * 1000000) (m * m - 10000))
+inverse-at-most Fiftieth k m h = le-trans (rounded-up-at-most _ _) (omega (arith, mul-le-mul h (X-at-most m)))
+inverse-at-most First k m h = le-trans (rounded-up-at-most _ _) (omega arith)
+inverse-at-most Second k m h = le-trans (rounded-up-at-most _ _) (omega arith)
 
 -- ---- where there is a time
 
@@ -133,4 +131,4 @@ reset-time-at-least op m e =
     let square = square-below m ratio in
     let kr = kr-above-0 op (ops .0) (ops .1) in
     rw (reset-time-by-parts op m (ops .0) (ops .1) ratio)
-    (rounded-up-at-least 100 (constantsOf op .kr * 1000000) (10000 - m * m) (omega arith) (omega arith))
+    (rounded-up-at-least 100 _ _ (omega arith) (omega arith))

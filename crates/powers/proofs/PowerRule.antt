@@ -54,11 +54,13 @@ least-of m x e =
       fewer = λ y h. lt-of-not-le (λ f. not-le-of-lt (leb-false _ _ (not-true _ (t .1))) (enough-up m y (x - 1) (omega arith) f));
     }
 
-not-more : {m x y : ℕ} → Least m x → Least m y → x ≤ y
-not-more {m} {x} {y} a b = omega (arith, lt-of-not-le {n = suc y} {m = x} (λ h. not-le-of-lt (a .fewer y h) (b .enough)))
+-- it is no more than any number that is enough
+not-more : {m x y : ℕ} → Least m x → 100 * (y + 1000000) ^ 50 ≤ m * y ^ 50 → x ≤ y
+not-more {m} {x} {y} least enough =
+    omega (arith, lt-of-not-le {n = suc y} {m = x} (λ h. not-le-of-lt (least .fewer y h) enough))
 
 pub least-unique : {m x y : ℕ} → Least m x → Least m y → x ≡ y
-least-unique a b = le-antisymm (not-more a b) (not-more b a)
+least-unique a b = le-antisymm (not-more a (b .enough)) (not-more b (a .enough))
 
 -- ---- the search finds it
 
@@ -118,6 +120,14 @@ pub X-at-least : (m : ℕ) → 101 ≤ m → m ≤ 2000 → 1000000 < X m
 X-at-least m low high =
     lt-of-not-le
     (λ h. not-le-of-lt (lit< {m = 2000 * 1000000 ^ 50} tt) (le-trans (enough-up m (X m) 1000000 h (power-rule m low .enough)) (mul-le-mul-right (1000000 ^ 50) high)))
+
+pub X-within : (m x : ℕ) → 101 ≤ m → 100 * (x + 1000000) ^ 50 ≤ m * x ^ 50 → X m ≤ x
+X-within m x low enough = not-more (power-rule m low) enough
+
+-- X(m) never rises with m: what is enough at a ratio is enough at every larger one
+pub X-never-rises : (m n : ℕ) → 101 ≤ m → m ≤ n → X n ≤ X m
+X-never-rises m n low h =
+    X-within n (X m) (le-trans low h) (le-trans (power-rule m low .enough) (mul-le-mul-right (X m ^ 50) h))
 
 -- a table whose entries pass the test from 101 on holds X
 pub table-holds-X : (xs : List ℕ) (m : ℕ) → 101 ≤ m → m - 101 < length xs → everyEntry isLeast 101 xs ≡ true → getD xs (m - 101) 0 ≡ X m

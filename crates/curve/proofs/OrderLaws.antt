@@ -1,0 +1,123 @@
+-- More current is never slower (02, E8): as m grows the operate time never rises and the gain never falls, the reset time never falls
+-- and the loss never rises.
+-- Assumes nothing.
+use Prim.Native.Nat.{ℕ, _+_, _-_, _*_, _/_, _^_, _≤_, _<_}
+use native.Mathlib.Nat.{add-le-add, div-mul-le-self, le-div-iff-mul-le, le-refl, le-trans, mul-le-mul, mul-le-mul-left}
+use native.Mathlib.Omega.{arith}
+use mathlib.Core.Bool.{Bool, true, false, cond, _&&_}
+use mathlib.Core.Path.{_≡_, refl}
+use borrow.Author.Tests.{leb-true, le-leb}
+use lib.Dec.{lit≤, leb}
+use Rattle.checks.specs.Range.{inRange}
+use Rattle.checks.proofs.Tests.{both-true, in-range, is-in-range}
+use Rattle.powers.proofs.PowerRule.{X-within, X-never-rises}
+use Rattle.powers.proofs.Tables.{below-passes}
+use Rattle.curve.specs.declared.constants.Power.{Power}
+use Rattle.curve.specs.declared.constants.Power.the-variants.{Fiftieth, First, Second}
+use Rattle.curve.specs.declared.constants.Constants.{Constants}
+use Rattle.curve.specs.Constants.{constantsOf, curveTable, numbersIn}
+use Rattle.curve.specs.Gain.{gainOf, lossOf}
+use Rattle.curve.specs.Rounding.{roundedUp}
+use Rattle.curve.specs.Time.{hasOperateTime, hasResetTime, inversePart, operateTime, resetPart, resetTime}
+use Rattle.curve.proofs.GainLaws.{gain-by-time}
+use Rattle.curve.proofs.RoundingLaws.{rounded-up-within, rounded-up-order}
+use Rattle.curve.proofs.TimeLaws.{square-above, square-below, operate-time-by-parts, operate-time-at-least, reset-time-at-least}
+
+-- ---- the times
+
+inverse-order : (a : Power) (k m n : ℕ) → 101 ≤ m → m ≤ n → n ≤ 2000 → inversePart a k n ≤ inversePart a k m
+inverse-order Fiftieth k m n low h high =
+    rounded-up-order _ _ _ _ (omega arith) (mul-le-mul-left k (X-never-rises m n low h)) (le-refl 10000)
+inverse-order First k m n low h high = rounded-up-order _ _ _ _ (omega arith) (le-refl _) (omega arith)
+inverse-order Second k m n low h high =
+    rounded-up-order _ _ _ _ (omega (arith, square-above m low (le-trans h high))) (le-refl _) (omega (arith, mul-le-mul h h))
+
+where-given : (b : Bool) (t u : ℕ) → t ≤ u → cond b t 0 ≤ cond b u 0
+where-given true t u h = h
+where-given false t u h = le-refl 0
+
+-- of an operation without a curve both are 0
+pub operate-time-never-rises : (op m n : ℕ) → 101 ≤ m → m ≤ n → n ≤ 2000 → operateTime op n ≤ operateTime op m
+unfolding operateTime
+operate-time-never-rises op m n low h high =
+    rw (is-in-range 101 2000 m low (le-trans h high), is-in-range 101 2000 n (le-trans low h) high)
+    (where-given (inRange 2 12 op && true) _ _ (add-le-add (le-refl (constantsOf op .c)) (inverse-order (constantsOf op .a) (constantsOf op .k) m n low h high)))
+
+reset-order : (kr m n : ℕ) → m ≤ n → n ≤ 99 → resetPart kr m ≤ resetPart kr n
+reset-order kr m n h high =
+    rounded-up-order _ _ _ _ (omega (arith, square-below n high)) (le-refl _) (omega (arith, mul-le-mul h h))
+
+pub reset-time-never-falls : (op m n : ℕ) → m ≤ n → n ≤ 99 → resetTime op m ≤ resetTime op n
+unfolding resetTime
+reset-time-never-falls op m n h high =
+    rw (le-leb m 99 (le-trans h high), le-leb n 99 high)
+    (where-given (inRange 6 12 op && true) _ _ (reset-order (constantsOf op .kr) m n h high))
+
+-- ---- gain and loss
+
+-- a share of a time where there is one: a shorter time has the larger share
+shares-order : (b c : Bool) (t u : ℕ) → (b ≡ true → (c ≡ true) × (0 < u) × (u ≤ t)) → cond b (10 ^ 14 / t) 0 ≤ cond c (10 ^ 14 / u) 0
+shares-order false c t u shorter = omega arith
+shares-order true c t u shorter =
+    let (given, pos, less) = shorter refl in
+    rw given (le-div-iff-mul-le pos .1 (le-trans (mul-le-mul-left (10 ^ 14 / t) less) (div-mul-le-self (10 ^ 14) t)))
+
+pub gain-never-falls : (op m n : ℕ) → m ≤ n → n ≤ 2000 → gainOf op m ≤ gainOf op n
+unfolding gainOf
+gain-never-falls op m n h high =
+    shares-order (hasOperateTime op m) (hasOperateTime op n) (operateTime op m) (operateTime op n)
+    (λ e. let (curve, ratio) = both-true (inRange 2 12 op) (inRange 101 2000 m) e in
+    let low = in-range 101 2000 m ratio .0 in
+    let given : hasOperateTime op n ≡ true = rw (curve, is-in-range 101 2000 n (le-trans low h) high) refl in
+    (given, le-trans (lit≤ tt) (operate-time-at-least op n given), operate-time-never-rises op m n low h high))
+
+-- above 99 there is none
+pub loss-never-rises : (op m n : ℕ) → m ≤ n → lossOf op n ≤ lossOf op m
+unfolding lossOf
+loss-never-rises op m n h =
+    shares-order (hasResetTime op n) (hasResetTime op m) (resetTime op n) (resetTime op m)
+    (λ e. let (ansi, ratio) = both-true (inRange 6 12 op) (leb n 99) e in
+    let high = leb-true n 99 ratio in
+    let given : hasResetTime op m ≡ true = rw (ansi, le-leb m 99 (le-trans h high)) refl in
+    (given, le-trans (lit≤ tt) (reset-time-at-least op m given), reset-time-never-falls op m n h high))
+
+-- ---- the smallest gain from m = 110 on
+
+-- what each unit of k adds to the time at 110, at most
+abbrev eachK : Power → ℕ
+eachK Fiftieth = 60000
+eachK First = 1000
+eachK Second = 477
+
+part-at-110 : (a : Power) (k : ℕ) → inversePart a k 110 ≤ eachK a * k
+part-at-110 Fiftieth k =
+    rounded-up-within _ _ _ (omega arith)
+    (omega (arith, mul-le-mul-left k (X-within 110 600000000 (omega arith) (lit≤ tt))))
+part-at-110 First k = rounded-up-within _ _ _ (omega arith) (omega arith)
+part-at-110 Second k = rounded-up-within _ _ _ (omega arith) (omega arith)
+
+-- 1,200 seconds
+abbrev quickEnough : Constants → Bool
+quickEnough row = leb (row .c + eachK (row .a) * row .k) 1200000000
+
+time-at-110 : (op : ℕ) → 2 ≤ op → op ≤ 12 → operateTime op 110 ≤ 1200000000
+unfolding constantsOf
+time-at-110 op low high =
+    let row = constantsOf op in
+    let place : 2 + (op - 2) ≡ op = omega arith in
+    let quick : quickEnough row ≡ true =
+    rw place at (below-passes (λ i. quickEnough (numbersIn curveTable (2 + i))) 11 refl (op - 2) (omega arith)) in
+    rw (operate-time-by-parts op 110 low high (omega arith) (omega arith))
+    (le-trans (add-le-add (le-refl (row .c)) (part-at-110 (row .a) (row .k))) (leb-true _ 1200000000 quick))
+
+pub gain-from-110 : (op m : ℕ) → 2 ≤ op → op ≤ 12 → 110 ≤ m → m ≤ 2000 → 83333 ≤ gainOf op m
+gain-from-110 op m low high least most =
+    let given : hasOperateTime op 110 ≡ true = rw (is-in-range 2 12 op low high) refl in
+    let at-110 : 83333 ≤ 10 ^ 14 / operateTime op 110 =
+    le-div-iff-mul-le (le-trans (lit≤ tt) (operate-time-at-least op 110 given)) .1 (omega (arith, time-at-110 op low high)) in
+    le-trans (rw (gain-by-time op 110) at at-110) (gain-never-falls op 110 m least most)
+
+-- IEC LongInv has it
+pub long-inverse-at-110 : gainOf 5 110 ≡ 83333
+unfolding gainOf operateTime constantsOf roundedUp
+long-inverse-at-110 = refl
