@@ -10,7 +10,7 @@ fn digit(n: u64) {
 }
 
 // A number of at most four digits, to the right of its column.
-fn whole(n: u64) {
+pub(crate) fn whole(n: u64) {
     place(1000 <= n, n / 1000);
     place(100 <= n, n / 100);
     place(10 <= n, n / 10);

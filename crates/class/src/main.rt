@@ -1,6 +1,7 @@
 // The class examples and published curve points, run through the module and compared with what they should be.
 mod curves;
 mod line;
+mod pairs;
 mod phases;
 mod timers;
 
@@ -10,5 +11,6 @@ fn main() {
     curves::ratios();
     curves::power_table();
     phases::phase_examples();
+    pairs::pairs_of_recordings();
     timers::timer_examples();
 }

@@ -9,7 +9,7 @@ use phase::tick::Ticked;
 use phase::tick::tick;
 
 // An operation with the start current s and the reset time 60.
-fn settings_of(operation: u32, s: u32) -> Settings {
+pub(crate) fn settings_of(operation: u32, s: u32) -> Settings {
     Settings {
         operation,
         start_current: s,

@@ -9,8 +9,9 @@ use Rattle.jumps.specs.declared.jump.TripTick.the-variants.{At, None}
 use Rattle.phase.specs.declared.settings.Settings.{Settings}
 use Rattle.phase.specs.declared.state.PhaseState.{PhaseState}
 use Rattle.phase.specs.declared.tick.Ticked.{Ticked}
-use Rattle.jumps.specs.Jump.{firstOf, tripAt, firstTrip, tripTick, jumpRefusal, jumpAnswer}
-use Rattle.phase.specs.Tick.{stateAfter, tickRefusal, tickAnswer}
+use Rattle.jumps.specs.Jump.{firstOf, firstTrip, tripTick, jumpRefusal, jumpAnswer}
+use Rattle.phase.specs.Tick.{tickRefusal, tickAnswer}
+use Rattle.phase.specs.Ticks.{phaseAfter, tripAt, always, stateAfter}
 use Rattle.phase.proofs.Accepted.{tick-accepted}
 use Rattle.jumps.proofs.JumpAccepted.{jump-accepted, jump-tick-accepted}
 use Rattle.jumps.proofs.FirstOfLaws.{FirstAt, Never, first-same, none-means, first-means, first-is, never-is}
@@ -42,13 +43,13 @@ pub record QuickSum (settings : Settings) (state : PhaseState) (g count : ℕ) :
 -- ---- the calls are the walked ticks
 
 calls-are-ticks : (settings : Settings) (g n : ℕ) (state : PhaseState) → tickRefusal settings state ≡ 0 → callsAfter settings g n state ≡ stateAfter settings g n state
-unfolding stateAfter
+unfolding phaseAfter
 calls-are-ticks settings g zero state e = refl
 calls-are-ticks settings g (suc n) state e =
     ap (λ (before : PhaseState). tickAnswer settings before g .state) (calls-are-ticks settings g n state e)
     ∙ ap (λ (answer : Ticked). answer .state) (tick-accepted settings (stateAfter settings g n state) g (ticks-keep-accepted settings g n state e))
 
-trip-is-called : (settings : Settings) (state : PhaseState) (g k : ℕ) → tickRefusal settings state ≡ 0 → tripAt settings g state (suc k) ≡ callTrips settings g state (suc k)
+trip-is-called : (settings : Settings) (state : PhaseState) (g k : ℕ) → tickRefusal settings state ≡ 0 → tripAt settings state (always g) (suc k) ≡ callTrips settings g state (suc k)
 trip-is-called settings state g k e =
     sym
     (ap (λ (before : PhaseState). tickAnswer settings before g .trip) (calls-are-ticks settings g k state e)
@@ -58,7 +59,7 @@ jump-trip-called : (settings : Settings) (state : PhaseState) (g count : ℕ) �
 unfolding firstTrip
 jump-trip-called settings state g count e =
     ap trip-of (jump-accepted settings state g count e)
-    ∙ ap tripTick (first-same (tripAt settings g state) (callTrips settings g state) count (λ k. trip-is-called settings state g k (jump-tick-accepted settings state count e)))
+    ∙ ap tripTick (first-same (tripAt settings state (always g)) (callTrips settings g state) count (λ k. trip-is-called settings state g k (jump-tick-accepted settings state count e)))
 
 -- ---- demand 3
 

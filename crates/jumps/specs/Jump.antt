@@ -1,6 +1,6 @@
 -- The jump over many equal ticks: the ticks walked one by one.
 use Prim.Native.Nat.{ℕ, zero, suc}
-use mathlib.Core.Bool.{Bool, false, cond}
+use mathlib.Core.Bool.{Bool, cond}
 use mathlib.Core.List.{List, [], _∷_, _++_}
 use lib.Dec.{leb, eqb}
 use Rattle.checks.specs.Checks.{Check, check, lowest}
@@ -10,7 +10,8 @@ use Rattle.jumps.specs.declared.jump.TripTick.the-variants.{At, None}
 use Rattle.phase.specs.declared.settings.Settings.{Settings}
 use Rattle.phase.specs.declared.state.PhaseState.{PhaseState}
 use Rattle.jumps.specs.Refusals.{jumpTooLong}
-use Rattle.phase.specs.Tick.{stateAfter, phaseTrip, phaseChecks}
+use Rattle.phase.specs.Tick.{phaseChecks}
+use Rattle.phase.specs.Ticks.{tripAt, always, stateAfter}
 
 -- the one found before, else the last where the test holds there
 abbrev pub orLast : ℕ → ℕ → Bool → ℕ
@@ -22,14 +23,9 @@ unfoldable pub firstOf : (ℕ → Bool) → ℕ → ℕ
 firstOf test zero = 0
 firstOf test (suc n) = orLast (firstOf test n) (suc n) (test (suc n))
 
--- whether the phase trip is on at tick k; the ticks count from 1
-abbrev pub tripAt : Settings → ℕ → PhaseState → ℕ → Bool
-tripAt settings g state zero = false
-tripAt settings g state (suc k) = phaseTrip settings (stateAfter settings g k state) g
-
 -- the first of n ticks with the phase trip on, or 0
 unfoldable pub firstTrip : Settings → ℕ → ℕ → PhaseState → ℕ
-firstTrip settings g n state = firstOf (tripAt settings g state) n
+firstTrip settings g n state = firstOf (tripAt settings state (always g)) n
 
 -- the answer's two cases: "trips at" a tick, or "has none"
 abbrev pub tripTick : ℕ → TripTick

@@ -15,7 +15,8 @@ use Rattle.phase.specs.device.Closed.{advanceBy}
 use Rattle.phase.specs.device.Ranges.{InRange}
 use Rattle.phase.specs.Operation.{kindOf}
 use Rattle.phase.specs.State.{runLimit}
-use Rattle.phase.specs.Tick.{started, phaseStart, stateAfter}
+use Rattle.phase.specs.Tick.{started, phaseStart}
+use Rattle.phase.specs.Ticks.{stateAfter}
 use Rattle.phase.proofs.Walk.{ticks-closed}
 
 module _ (settings : Settings) (definite : kindOf (settings .operation) ≡ On Definite) where

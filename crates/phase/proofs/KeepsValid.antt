@@ -17,7 +17,8 @@ use Rattle.phase.specs.device.Ranges.{InLimits}
 use Rattle.phase.specs.Operation.{kindOf}
 use Rattle.phase.specs.Settings.{tripLevel}
 use Rattle.phase.specs.State.{runLimit, clearState, valid, validCounts, validFor}
-use Rattle.phase.specs.Tick.{countUp, keptTill, started, nextBy, nextState, stateAfter, tickRefusal}
+use Rattle.phase.specs.Tick.{countUp, keptTill, started, nextBy, nextState, tickRefusal}
+use Rattle.phase.specs.Ticks.{phaseAfter, always, stateAfter}
 use Rattle.phase.proofs.Accepted.{valid-in-limits, tick-passed}
 
 abbrev validBy : Settings → Kind → PhaseState → Bool
@@ -29,7 +30,7 @@ by-parts settings kind state limits f =
 
 -- ---- the limits after a tick, by the group of operations
 
-kept-within : (settings : Settings) (newDrop n limit : ℕ) → n ≤ limit → keptTill settings newDrop n ≤ limit
+pub kept-within : (settings : Settings) (newDrop n limit : ℕ) → n ≤ limit → keptTill settings newDrop n ≤ limit
 kept-within settings newDrop n limit h =
     by-cond (λ k. k ≤ limit) (leb (settings .«reset_time») newDrop) 0 n (λ t. omega arith) (λ t. h)
 
@@ -91,15 +92,15 @@ tick-keeps-valid settings state g e =
     } in
     by-parts settings kind (nextBy kind b settings g state) limits (valid-after kind b settings g state)
 
-pub ticks-keep-valid : (settings : Settings) (g n : ℕ) (state : PhaseState) → valid settings state ≡ true → valid settings (stateAfter settings g n state) ≡ true
-unfolding stateAfter
-ticks-keep-valid settings g zero state e = e
-ticks-keep-valid settings g (suc n) state e =
-    tick-keeps-valid settings (stateAfter settings g n state) g (ticks-keep-valid settings g n state e)
+pub ticks-keep-valid : (settings : Settings) (state : PhaseState) (sample : ℕ → ℕ) (n : ℕ) → valid settings state ≡ true → valid settings (phaseAfter settings state sample n) ≡ true
+unfolding phaseAfter
+ticks-keep-valid settings state sample zero e = e
+ticks-keep-valid settings state sample (suc n) e =
+    tick-keeps-valid settings (phaseAfter settings state sample n) (sample n) (ticks-keep-valid settings state sample n e)
 
 -- so the tick after an accepted tick is accepted
 pub ticks-keep-accepted : (settings : Settings) (g n : ℕ) (state : PhaseState) → tickRefusal settings state ≡ 0 → tickRefusal settings (stateAfter settings g n state) ≡ 0
 unfolding tickRefusal
 ticks-keep-accepted settings g n state e =
     let v = tick-passed settings state e .1 in
-    rw (ticks-keep-valid settings g n state v) (rw v at e)
+    rw (ticks-keep-valid settings state (always g) n v) (rw v at e)

@@ -7,3 +7,5 @@ pub mod Accepted
 pub mod KeepsValid
 pub mod LowestRefusals
 pub mod TripLaws
+pub mod TwoRuns
+pub mod LatestTrip

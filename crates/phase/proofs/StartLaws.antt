@@ -1,12 +1,13 @@
 -- The drop-out at 95 % (02, E3 and E7): the field is the last tick's start; over equal samples a phase stays started, or stays idle;
 -- and with m at 100 or less a started one neither gains nor loses.
 -- Assumes nothing.
-use Prim.Native.Nat.{ℕ, zero, suc, _*_, _≤_}
+use Prim.Native.Nat.{ℕ, zero, suc, _≤_}
+use native.Mathlib.Nat.{le-refl}
 use native.Mathlib.Omega.{arith}
-use mathlib.Core.Bool.{Bool, true, false, cond, false≢true}
+use mathlib.Core.Bool.{Bool, true, false, false≢true}
 use mathlib.Core.Path.{_≡_, refl, sym, ap, _∙_}
-use borrow.Author.Tests.{le-leb, leb-false, ltb-true, le-ltb}
-use lib.Dec.{ltb, leb}
+use borrow.Author.Tests.{le-leb, leb-true, lt-ltb, ltb-true}
+use Rattle.checks.proofs.Cases.{not-both, not-true}
 use Rattle.curve.proofs.GainLaws.{gain-zero-to-100}
 use Rattle.curve.specs.Ratio.{ratioOf}
 use Rattle.phase.specs.declared.operation.Kind.{Kind}
@@ -18,7 +19,8 @@ use Rattle.phase.specs.declared.state.PhaseState.{PhaseState}
 use Rattle.phase.specs.Operation.{kindOf}
 use Rattle.phase.specs.Settings.{tripLevel}
 use Rattle.phase.specs.State.{valid, validFor}
-use Rattle.phase.specs.Tick.{gainAt, started, nextBy, nextState, stateAfter, startBy, phaseStart}
+use Rattle.phase.specs.Tick.{gainAt, startedBy, started, nextBy, nextState, startBy, phaseStart}
+use Rattle.phase.specs.Ticks.{phaseAfter, stateAfter}
 use Rattle.phase.proofs.Accepted.{valid-in-limits, valid-kind}
 use Rattle.phase.proofs.StateLaws.{definite-sum}
 
@@ -34,23 +36,24 @@ pub field-is-start : (settings : Settings) (state : PhaseState) (g : ℕ) → ne
 unfolding nextState phaseStart
 field-is-start settings state g = field-by (kindOf (settings .operation)) (started settings state g) settings g state
 
+-- ---- its order
+
+-- a phase is started wherever one is that was not started before it, and has no larger sample
+pub start-order : (settings : Settings) (was is : Bool) (g h : ℕ) → (was ≡ true → is ≡ true) → g ≤ h → startedBy was settings g ≡ true → startedBy is settings h ≡ true
+start-order settings true true g h on more e = le-leb _ h (omega (arith, leb-true _ g e))
+start-order settings true false g h on more e = absurd (false≢true (on refl))
+start-order settings false true g h on more e = le-leb _ h (omega (arith, ltb-true _ g e))
+start-order settings false false g h on more e = lt-ltb _ h (omega (arith, ltb-true _ g e))
+
 -- ---- equal samples
-
--- a started phase has g at least 95 x s, whether it was started before or not
-started-high : (was : Bool) (s g : ℕ) → cond was (leb (95 * s) g) (ltb (100 * s) g) ≡ true → leb (95 * s) g ≡ true
-started-high true s g e = e
-started-high false s g e = le-leb (95 * s) g (omega (arith, ltb-true (100 * s) g e))
-
--- an idle one has g at most 100 x s
-idle-low : (was : Bool) (s g : ℕ) → cond was (leb (95 * s) g) (ltb (100 * s) g) ≡ false → ltb (100 * s) g ≡ false
-idle-low true s g e = le-ltb (100 * s) g (omega (arith, leb-false (95 * s) g e))
-idle-low false s g e = e
 
 -- a started tick puts the field on, an idle one off: with the same sample the next tick is as this one
 on-again : (timing : Timing) (b : Bool) (settings : Settings) (g : ℕ) (state : PhaseState) → started settings state g ≡ b → started settings (nextBy (On timing) b settings g state) g ≡ b
 unfolding started
-on-again timing true settings g state e = started-high (state .started) (settings .«start_current») g e
-on-again timing false settings g state e = idle-low (state .started) (settings .«start_current») g e
+on-again timing true settings g state e = start-order settings (state .started) true g g (λ on. refl) (le-refl g) e
+on-again timing false settings g state e =
+    not-true _
+    (λ t. not-both _ (start-order settings false (state .started) g g (λ on. absurd (false≢true on)) (le-refl g) t) e)
 
 start-again : (kind : Kind) (settings : Settings) (g : ℕ) (state : PhaseState) → startBy kind (started settings (nextBy kind (started settings state g) settings g state) g) ≡ startBy kind (started settings state g)
 start-again Off settings g state = refl
@@ -58,7 +61,7 @@ start-again (On timing) settings g state = on-again timing (started settings sta
 
 -- of any settings and any state: Off starts at no tick, whatever its field
 pub start-stays : (settings : Settings) (g n : ℕ) (state : PhaseState) → phaseStart settings (stateAfter settings g n state) g ≡ phaseStart settings state g
-unfolding phaseStart stateAfter nextState
+unfolding phaseStart phaseAfter nextState
 start-stays settings g zero state = refl
 start-stays settings g (suc n) state =
     start-again (kindOf (settings .operation)) settings g (stateAfter settings g n state) ∙ start-stays settings g n state

@@ -16,7 +16,8 @@ use Rattle.phase.specs.declared.state.PhaseState.{PhaseState}
 use Rattle.phase.specs.device.Closed.{advanceBy, advanced}
 use Rattle.phase.specs.Operation.{kindOf}
 use Rattle.phase.specs.State.{runLimit}
-use Rattle.phase.specs.Tick.{started, keptTill, nextBy, nextState, stateAfter, phaseStart, phaseTrip, tripBy}
+use Rattle.phase.specs.Tick.{started, keptTill, nextBy, nextState, phaseStart, phaseTrip, tripBy}
+use Rattle.phase.specs.Ticks.{phaseAfter, stateAfter}
 use Rattle.phase.proofs.StartLaws.{start-stays, by-start}
 use Rattle.phase.proofs.StateLaws.{same-state}
 
@@ -62,7 +63,7 @@ again (On (Curve Ansi)) false settings g n state = same-state (drain-again _ _ _
 -- ---- the walk
 
 from-one : (settings : Settings) (g n : ℕ) (state : PhaseState) → stateAfter settings g (suc n) state ≡ advanced settings g (suc n) state
-unfolding stateAfter nextState phaseStart
+unfolding phaseAfter nextState phaseStart
 from-one settings g zero state = once (kindOf (settings .operation)) (started settings state g) settings g state
 from-one settings g (suc n) state =
     let kind = kindOf (settings .operation) in
@@ -79,7 +80,7 @@ ticks-closed settings g (suc n) state h = from-one settings g n state
 
 -- the trip of the tick after n others
 pub trip-closed : (settings : Settings) (g n : ℕ) (state : PhaseState) → phaseTrip settings (stateAfter settings g n state) g ≡ tripBy (kindOf (settings .operation)) (started settings state g) settings (advanced settings g (suc n) state)
-unfolding phaseStart phaseTrip stateAfter
+unfolding phaseStart phaseTrip phaseAfter
 trip-closed settings g n state =
     let kind = kindOf (settings .operation) in
     let b = started settings state g in

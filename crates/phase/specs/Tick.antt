@@ -1,5 +1,5 @@
 -- One phase tick (01, 'One phase tick'; 02, E3 and E7), rule by rule.
-use Prim.Native.Nat.{ℕ, zero, suc, _+_, _-_, _*_, min}
+use Prim.Native.Nat.{ℕ, _+_, _-_, _*_, min}
 use mathlib.Core.Bool.{Bool, true, false, cond, _&&_}
 use mathlib.Core.List.{List, [], _∷_, _++_}
 use lib.Dec.{ltb, leb, eqb}
@@ -30,9 +30,11 @@ lossAt settings g = lossOf (settings .operation) (ratioOf g (settings .«start_c
 
 -- 2. as E3 amends it: "a phase that was started on its last tick .. stays started while g is at least 95 x s; a phase that wasn't
 -- still needs g greater than 100 x s." Which of them it is, its field tells (E7): "E3 reads that."
+abbrev pub startedBy : Bool → Settings → ℕ → Bool
+startedBy was settings g = cond was (leb (95 * settings .«start_current») g) (ltb (100 * settings .«start_current») g)
+
 unfoldable pub started : Settings → PhaseState → ℕ → Bool
-started settings state g =
-    cond (state .started) (leb (95 * settings .«start_current») g) (ltb (100 * settings .«start_current») g)
+started settings state g = startedBy (state .started) settings g
 
 -- "goes up by 1 (stops at 60,000)", of run and of drop
 abbrev pub countUp : ℕ → ℕ
@@ -85,11 +87,6 @@ nextBy (On timing) false settings g state = afterIdle timing settings g state
 -- the state after a tick
 unfoldable pub nextState : Settings → PhaseState → ℕ → PhaseState
 nextState settings state g = nextBy (kindOf (settings .operation)) (started settings state g) settings g state
-
--- the state after n ticks with the sample g
-unfoldable pub stateAfter : Settings → ℕ → ℕ → PhaseState → PhaseState
-stateAfter settings g zero state = state
-stateAfter settings g (suc n) state = nextState settings (stateAfter settings g n state) g
 
 -- the start output: 1., else 2.
 abbrev pub startBy : Kind → Bool → Bool

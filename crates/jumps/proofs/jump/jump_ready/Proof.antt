@@ -5,13 +5,13 @@ use mathlib.Core.Path.{refl}
 use borrow.Author.Needs.{needs}
 use Rattle.jumps.proofs.FirstTrips.{first-trip-closed}
 use Rattle.phase.proofs.Walk.{ticks-closed}
-use Rattle.phase.specs.Tick.{stateAfter}
+use Rattle.phase.specs.Ticks.{phaseAfter}
 use Rattle.jumps.specs.Jump.{firstOf, firstTrip}
 use Rattle.jumps.proofs.jump.jump_ready.Statement.{statement}
 use Rattle.jumps.proofs.jump.jump_ready.Tie as tie
 
 returns : tie.Need-returns
-unfolding stateAfter firstOf firstTrip
+unfolding phaseAfter firstOf firstTrip
 returns c = rw (c .if1 .taken) refl
 
 kind-of-requires : tie.Need-kind-of-requires
