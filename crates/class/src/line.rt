@@ -10,10 +10,24 @@ fn digit(n: u64) {
 }
 
 // A number of at most four digits, to the right of its column.
-pub(crate) fn whole(n: u64) {
+fn whole(n: u64) {
     place(1000 <= n, n / 1000);
     place(100 <= n, n / 100);
     place(10 <= n, n / 10);
+    digit(n);
+}
+
+// A number of at most four digits, with nothing before it.
+pub(crate) fn number(n: u64) {
+    if 1000 <= n {
+        digit(n / 1000);
+    }
+    if 100 <= n {
+        digit(n / 100);
+    }
+    if 10 <= n {
+        digit(n / 10);
+    }
     digit(n);
 }
 

@@ -11,17 +11,16 @@ use lib.Dec.{lit≤, leb}
 use Rattle.checks.specs.Range.{inRange}
 use Rattle.checks.proofs.Tests.{both-true, in-range, is-in-range}
 use Rattle.powers.proofs.PowerRule.{X-within, X-never-rises}
-use Rattle.powers.proofs.Tables.{below-passes}
 use Rattle.curve.specs.declared.constants.Power.{Power}
 use Rattle.curve.specs.declared.constants.Power.the-variants.{Fiftieth, First, Second}
 use Rattle.curve.specs.declared.constants.Constants.{Constants}
-use Rattle.curve.specs.Constants.{constantsOf, curveTable, numbersIn}
+use Rattle.curve.specs.Constants.{constantsOf}
 use Rattle.curve.specs.Gain.{gainOf, lossOf}
 use Rattle.curve.specs.Rounding.{roundedUp}
 use Rattle.curve.specs.Time.{hasOperateTime, hasResetTime, inversePart, operateTime, resetPart, resetTime}
 use Rattle.curve.proofs.GainLaws.{gain-by-time}
 use Rattle.curve.proofs.RoundingLaws.{rounded-up-within, rounded-up-order}
-use Rattle.curve.proofs.TimeLaws.{square-above, square-below, operate-time-by-parts, operate-time-at-least, reset-time-at-least}
+use Rattle.curve.proofs.TimeLaws.{row-passes, square-above, square-below, operate-time-by-parts, operate-time-at-least, reset-time-at-least}
 
 -- ---- the times
 
@@ -36,7 +35,7 @@ where-given : (b : Bool) (t u : ℕ) → t ≤ u → cond b t 0 ≤ cond b u 0
 where-given true t u h = h
 where-given false t u h = le-refl 0
 
--- of an operation without a curve both are 0
+-- "The time at multiplier 1 never rises with m."; of an operation without a curve both are 0
 pub operate-time-never-rises : (op m n : ℕ) → 101 ≤ m → m ≤ n → n ≤ 2000 → operateTime op n ≤ operateTime op m
 unfolding operateTime
 operate-time-never-rises op m n low h high =
@@ -45,7 +44,8 @@ operate-time-never-rises op m n low h high =
 
 reset-order : (kr m n : ℕ) → m ≤ n → n ≤ 99 → resetPart kr m ≤ resetPart kr n
 reset-order kr m n h high =
-    rounded-up-order _ _ _ _ (omega (arith, square-below n high)) (le-refl _) (omega (arith, mul-le-mul h h))
+    let squares = mul-le-mul h h in
+    rounded-up-order _ _ _ _ (omega (arith, square-below n high)) (omega arith) (omega arith)
 
 pub reset-time-never-falls : (op m n : ℕ) → m ≤ n → n ≤ 99 → resetTime op m ≤ resetTime op n
 unfolding resetTime
@@ -96,28 +96,31 @@ part-at-110 Fiftieth k =
 part-at-110 First k = rounded-up-within _ _ _ (omega arith) (omega arith)
 part-at-110 Second k = rounded-up-within _ _ _ (omega arith) (omega arith)
 
--- 1,200 seconds
-abbrev quickEnough : Constants → Bool
-quickEnough row = leb (row .c + eachK (row .a) * row .k) 1200000000
+-- the 1,200 seconds that IEC LongInv takes there
+abbrev longestAt110 : ℕ
+longestAt110 = 1200000000
 
-time-at-110 : (op : ℕ) → 2 ≤ op → op ≤ 12 → operateTime op 110 ≤ 1200000000
-unfolding constantsOf
+abbrev quickEnough : Constants → Bool
+quickEnough row = leb (row .c + eachK (row .a) * row .k) longestAt110
+
+time-at-110 : (op : ℕ) → 2 ≤ op → op ≤ 12 → operateTime op 110 ≤ longestAt110
 time-at-110 op low high =
     let row = constantsOf op in
-    let place : 2 + (op - 2) ≡ op = omega arith in
-    let quick : quickEnough row ≡ true =
-    rw place at (below-passes (λ i. quickEnough (numbersIn curveTable (2 + i))) 11 refl (op - 2) (omega arith)) in
+    let quick : quickEnough row ≡ true = row-passes quickEnough 2 11 refl op low (omega arith) in
     rw (operate-time-by-parts op 110 low high (omega arith) (omega arith))
-    (le-trans (add-le-add (le-refl (row .c)) (part-at-110 (row .a) (row .k))) (leb-true _ 1200000000 quick))
+    (le-trans (add-le-add (le-refl (row .c)) (part-at-110 (row .a) (row .k))) (leb-true _ longestAt110 quick))
 
-pub gain-from-110 : (op m : ℕ) → 2 ≤ op → op ≤ 12 → 110 ≤ m → m ≤ 2000 → 83333 ≤ gainOf op m
+-- its share
+abbrev pub leastGain : ℕ
+leastGain = 83333
+
+pub gain-from-110 : (op m : ℕ) → 2 ≤ op → op ≤ 12 → 110 ≤ m → m ≤ 2000 → leastGain ≤ gainOf op m
 gain-from-110 op m low high least most =
     let given : hasOperateTime op 110 ≡ true = rw (is-in-range 2 12 op low high) refl in
-    let at-110 : 83333 ≤ 10 ^ 14 / operateTime op 110 =
+    let at-110 : leastGain ≤ 10 ^ 14 / operateTime op 110 =
     le-div-iff-mul-le (le-trans (lit≤ tt) (operate-time-at-least op 110 given)) .1 (omega (arith, time-at-110 op low high)) in
     le-trans (rw (gain-by-time op 110) at at-110) (gain-never-falls op 110 m least most)
 
--- IEC LongInv has it
-pub long-inverse-at-110 : gainOf 5 110 ≡ 83333
+pub long-inverse-gain-at-110 : gainOf 5 110 ≡ leastGain
 unfolding gainOf operateTime constantsOf roundedUp
-long-inverse-at-110 = refl
+long-inverse-gain-at-110 = refl

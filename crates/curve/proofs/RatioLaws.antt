@@ -26,14 +26,14 @@ pub ratio-from-cap : (g s : ℕ) → 0 < s → 2000 * s ≤ g → ratioOf g s �
 unfolding ratioOf
 ratio-from-cap g s pos low = omega (arith, le-div-iff-mul-le pos .1 low)
 
--- ---- its order
+-- a ratio of m or more has samples from m x s on
+pub ratio-reached : (g s m : ℕ) → 0 < s → m ≤ ratioOf g s → m * s ≤ g
+unfolding ratioOf
+ratio-reached g s m pos low = le-div-iff-mul-le pos .0 (omega arith)
 
+-- a larger sample has no smaller ratio
 pub ratio-never-falls : (g h s : ℕ) → 0 < s → g ≤ h → ratioOf g s ≤ ratioOf h s
 unfolding ratioOf
 ratio-never-falls g h s pos more =
     let quotient : g / s ≤ h / s = le-div-iff-mul-le pos .1 (le-trans (div-mul-le-self g s) more) in
     omega arith
-
-pub ratio-reached : (g s m : ℕ) → 0 < s → m ≤ ratioOf g s → m * s ≤ g
-unfolding ratioOf
-ratio-reached g s m pos low = le-div-iff-mul-le pos .0 (omega arith)

@@ -10,7 +10,7 @@ use lib.Dec.{leb}
 use Rattle.checks.specs.Range.{inRange}
 use Rattle.checks.proofs.Tests.{both-true, in-range, is-in-range, below-range, above-range}
 use Rattle.powers.proofs.PowerRule.{X-at-most, X-at-least}
-use Rattle.powers.proofs.Tables.{below-passes}
+use Rattle.powers.proofs.Tables.{everyBelow, below-passes}
 use Rattle.curve.specs.declared.constants.Power.{Power}
 use Rattle.curve.specs.declared.constants.Power.the-variants.{Fiftieth, First, Second}
 use Rattle.curve.specs.declared.constants.Constants.{Constants}
@@ -43,19 +43,18 @@ moderate-means row e =
     let ks = in-range (leastK (row .a)) 10000000 (row .k) (front .0) in
     record { k-low = ks .0; k = ks .1; c = leb-true (row .c) 10000000 (front .1); kr = leb-true (row .kr) 10000000 (all .1) }
 
-pub constants-moderate : (op : ℕ) → 2 ≤ op → op ≤ 12 → Moderate (constantsOf op)
+-- a test that passes on so many rows, from an operation on, computed over them
+pub row-passes : (test : Constants → Bool) (first rows : ℕ) → everyBelow (λ i. test (numbersIn curveTable (first + i))) rows ≡ true → (op : ℕ) → first ≤ op → op < first + rows → test (constantsOf op) ≡ true
 unfolding constantsOf
-constants-moderate op low high =
-    let place : 2 + (op - 2) ≡ op = omega arith in
-    moderate-means (numbersIn curveTable op)
-    (rw place at (below-passes (λ i. moderate (numbersIn curveTable (2 + i))) 11 refl (op - 2) (omega arith)))
+row-passes test first rows e op low high =
+    let place : first + (op - first) ≡ op = omega arith in
+    rw place at (below-passes (λ i. test (numbersIn curveTable (first + i))) rows e (op - first) (omega arith))
+
+pub constants-moderate : (op : ℕ) → 2 ≤ op → op ≤ 12 → Moderate (constantsOf op)
+constants-moderate op low high = moderate-means (constantsOf op) (row-passes moderate 2 11 refl op low (omega arith))
 
 pub kr-above-0 : (op : ℕ) → 6 ≤ op → op ≤ 12 → 1 ≤ constantsOf op .kr
-unfolding constantsOf
-kr-above-0 op low high =
-    let place : 6 + (op - 6) ≡ op = omega arith in
-    leb-true 1 _
-    (rw place at (below-passes (λ i. leb 1 (numbersIn curveTable (6 + i) .kr)) 7 refl (op - 6) (omega arith)))
+kr-above-0 op low high = leb-true 1 _ (row-passes (λ row. leb 1 (row .kr)) 6 7 refl op low (omega arith))
 
 -- ---- the times
 

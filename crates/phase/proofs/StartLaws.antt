@@ -1,5 +1,5 @@
--- The drop-out at 95 % (02, E3 and E7): the field is the last tick's start; over equal samples a phase stays started, or stays idle;
--- and with m at 100 or less a started one neither gains nor loses.
+-- The drop-out at 95 % (02, E3 and E7): the field is the last tick's start; a larger current starts wherever a smaller one does (E8);
+-- over equal samples a phase stays started, or stays idle; and with m at 100 or less a started one neither gains nor loses.
 -- Assumes nothing.
 use Prim.Native.Nat.{ℕ, zero, suc, _≤_}
 use native.Mathlib.Nat.{le-refl}
@@ -19,7 +19,7 @@ use Rattle.phase.specs.declared.state.PhaseState.{PhaseState}
 use Rattle.phase.specs.Operation.{kindOf}
 use Rattle.phase.specs.Settings.{tripLevel}
 use Rattle.phase.specs.State.{valid, validFor}
-use Rattle.phase.specs.Tick.{gainAt, startedBy, started, nextBy, nextState, startBy, phaseStart}
+use Rattle.phase.specs.Tick.{gainAt, startedAfter, started, nextBy, nextState, startBy, phaseStart}
 use Rattle.phase.specs.Ticks.{phaseAfter, stateAfter}
 use Rattle.phase.proofs.Accepted.{valid-in-limits, valid-kind}
 use Rattle.phase.proofs.StateLaws.{definite-sum}
@@ -36,10 +36,10 @@ pub field-is-start : (settings : Settings) (state : PhaseState) (g : ℕ) → ne
 unfolding nextState phaseStart
 field-is-start settings state g = field-by (kindOf (settings .operation)) (started settings state g) settings g state
 
--- ---- its order
+-- ---- the order of starts
 
--- a phase is started wherever one is that was not started before it, and has no larger sample
-pub start-order : (settings : Settings) (was is : Bool) (g h : ℕ) → (was ≡ true → is ≡ true) → g ≤ h → startedBy was settings g ≡ true → startedBy is settings h ≡ true
+-- a phase is started wherever another is that has no larger sample, and was started before only if this one was
+pub start-order : (settings : Settings) (first second : Bool) (g h : ℕ) → (first ≡ true → second ≡ true) → g ≤ h → startedAfter first settings g ≡ true → startedAfter second settings h ≡ true
 start-order settings true true g h on more e = le-leb _ h (omega (arith, leb-true _ g e))
 start-order settings true false g h on more e = absurd (false≢true (on refl))
 start-order settings false true g h on more e = le-leb _ h (omega (arith, ltb-true _ g e))

@@ -40,18 +40,18 @@ pub record NeverSlower (settings : Settings) (state : PhaseState) (first second 
 -- ---- what goes on from tick to tick
 
 -- of the states of both runs after as many ticks
-pub record Ahead (first second : PhaseState) : Type 0 where
-  pub sum : first .sum ≤ second .sum
-  pub run : first .run ≤ second .run
-  pub drop : second .drop ≤ first .drop
-  pub started : first .started ≡ true → second .started ≡ true
+record Ahead (first second : PhaseState) : Type 0 where
+  sum : first .sum ≤ second .sum
+  run : first .run ≤ second .run
+  drop : second .drop ≤ first .drop
+  started : first .started ≡ true → second .started ≡ true
 
 -- a shorter drop keeps what a longer one does
-kept-order : (settings : Settings) (d e n k : ℕ) → e ≤ d → n ≤ k → keptTill settings d n ≤ keptTill settings e k
-kept-order settings d e n k shorter more = go (leb (settings .«reset_time») d) (leb (settings .«reset_time») e) refl refl
+kept-order : (settings : Settings) (d e a b : ℕ) → e ≤ d → a ≤ b → keptTill settings d a ≤ keptTill settings e b
+kept-order settings d e a b shorter more = go (leb (settings .«reset_time») d) (leb (settings .«reset_time») e) refl refl
   where
-    go : (b c : Bool) → leb (settings .«reset_time») d ≡ b → leb (settings .«reset_time») e ≡ c → keptTill settings d n ≤ keptTill settings e k
-    go true c p q = rw p (omega arith)
+    go : (s t : Bool) → leb (settings .«reset_time») d ≡ s → leb (settings .«reset_time») e ≡ t → keptTill settings d a ≤ keptTill settings e b
+    go true t p q = rw p (omega arith)
     go false true p q = absurd (omega (arith, leb-false _ d p, leb-true _ e q))
     go false false p q = rw (p, q) more
 
@@ -67,29 +67,29 @@ module _ (settings : Settings) (range : InRange settings) (g h : ℕ) (more : g 
   losses = loss-never-rises (settings .operation) _ _ ratios
 
   -- both started
-  sum-up-order : (timing : Timing) (m n : ℕ) → m ≤ n → sumUp timing settings g m ≤ sumUp timing settings h n
-  sum-up-order Definite m n less = omega arith
-  sum-up-order (Curve rule) m n less = omega (arith, gains)
+  sum-up-order : (timing : Timing) (a b : ℕ) → a ≤ b → sumUp timing settings g a ≤ sumUp timing settings h b
+  sum-up-order Definite a b less = omega arith
+  sum-up-order (Curve rule) a b less = omega (arith, gains)
 
   -- both idle
-  sum-down-order : (timing : Timing) (d e m n : ℕ) → e ≤ d → m ≤ n → sumDown timing settings g d m ≤ sumDown timing settings h e n
-  sum-down-order Definite d e m n shorter less = omega arith
-  sum-down-order (Curve Iec) d e m n shorter less = kept-order settings d e m n shorter less
-  sum-down-order (Curve Ansi) d e m n shorter less = omega (arith, losses)
+  sum-down-order : (timing : Timing) (d e a b : ℕ) → e ≤ d → a ≤ b → sumDown timing settings g d a ≤ sumDown timing settings h e b
+  sum-down-order Definite d e a b shorter less = omega arith
+  sum-down-order (Curve Iec) d e a b shorter less = kept-order settings d e a b shorter less
+  sum-down-order (Curve Ansi) d e a b shorter less = omega (arith, losses)
 
-  run-down-order : (timing : Timing) (d e m n : ℕ) → e ≤ d → m ≤ n → runDown timing settings d m ≤ runDown timing settings e n
-  run-down-order Definite d e m n shorter less = kept-order settings d e m n shorter less
-  run-down-order (Curve rule) d e m n shorter less = omega arith
+  run-down-order : (timing : Timing) (d e a b : ℕ) → e ≤ d → a ≤ b → runDown timing settings d a ≤ runDown timing settings e b
+  run-down-order Definite d e a b shorter less = kept-order settings d e a b shorter less
+  run-down-order (Curve rule) d e a b shorter less = omega arith
 
   -- the first idle, the second started
-  sum-across : (timing : Timing) (d m n : ℕ) → m ≤ n → m ≤ tripLevel settings → sumDown timing settings g d m ≤ sumUp timing settings h n
-  sum-across Definite d m n less full = omega arith
-  sum-across (Curve Iec) d m n less full = le-trans (kept-within settings d m m (le-refl m)) (omega arith)
-  sum-across (Curve Ansi) d m n less full = omega arith
+  sum-across : (timing : Timing) (d a b : ℕ) → a ≤ b → a ≤ tripLevel settings → sumDown timing settings g d a ≤ sumUp timing settings h b
+  sum-across Definite d a b less full = omega arith
+  sum-across (Curve Iec) d a b less full = le-trans (kept-within settings d a a (le-refl a)) (omega arith)
+  sum-across (Curve Ansi) d a b less full = omega arith
 
-  run-across : (timing : Timing) (d m n : ℕ) → m ≤ n → m ≤ runLimit → runDown timing settings d m ≤ countUp n
-  run-across Definite d m n less full = le-trans (kept-within settings d m m (le-refl m)) (omega arith)
-  run-across (Curve rule) d m n less full = omega arith
+  run-across : (timing : Timing) (d a b : ℕ) → a ≤ b → a ≤ runLimit → runDown timing settings d a ≤ countUp b
+  run-across Definite d a b less full = le-trans (kept-within settings d a a (le-refl a)) (omega arith)
+  run-across (Curve rule) d a b less full = omega arith
 
   next-order : (kind : Kind) (b c : Bool) (first second : PhaseState) → (b ≡ true → c ≡ true) → InLimits settings first → Ahead first second → Ahead (nextBy kind b settings g first) (nextBy kind c settings h second)
   next-order Off b c first second on limits ahead =
@@ -148,7 +148,12 @@ module _ (settings : Settings) (range : InRange settings) (g h : ℕ) (more : g 
 
 -- ---- the two runs
 
-module _ (settings : Settings) (state : PhaseState) (first second : ℕ → ℕ) (ticks : ℕ) (range : InRange settings) (v : valid settings state ≡ true) (more : (k : ℕ) → k < ticks → first k ≤ second k) where
+-- "Take the same accepted settings and the same valid start state, and two sample sequences of one length, the second at least as large
+-- as the first at every tick."
+module _ (settings : Settings) (accepted : settingsRefusal settings ≡ 0) (state : PhaseState) (v : valid settings state ≡ true) (first second : ℕ → ℕ) (ticks : ℕ) (more : (k : ℕ) → k < ticks → first k ≤ second k) where
+  range : InRange settings
+  range = settings-passed settings 0 (accepted-settings settings accepted) .0
+
   limits : (k : ℕ) → InLimits settings (phaseAfter settings state first k)
   limits k = valid-in-limits settings _ (ticks-keep-valid settings state first k v)
 
@@ -162,12 +167,6 @@ module _ (settings : Settings) (state : PhaseState) (first second : ℕ → ℕ)
   trips-too zero h e = e
   trips-too (suc k) h e = trips settings range (first k) (second k) (more k h) _ _ (always-ahead k (omega arith)) (limits k) e
 
--- of accepted settings, a valid state and two sequences of so many samples
-pub more-is-never-slower : (settings : Settings) (state : PhaseState) (first second : ℕ → ℕ) (ticks : ℕ) → settingsRefusal settings ≡ 0 → valid settings state ≡ true → ((k : ℕ) → k < ticks → first k ≤ second k) → NeverSlower settings state first second ticks
-more-is-never-slower settings state first second ticks accepted v more =
-    let range = settings-passed settings 0 (accepted-settings settings accepted) .0 in
-    record {
-      sum = λ k h. always-ahead settings state first second ticks range v more k h .sum;
-      run = λ k h. always-ahead settings state first second ticks range v more k h .run;
-      trip = trips-too settings state first second ticks range v more;
-    }
+  pub more-is-never-slower : NeverSlower settings state first second ticks
+  more-is-never-slower =
+      record { sum = λ k h. always-ahead k h .sum; run = λ k h. always-ahead k h .run; trip = trips-too }

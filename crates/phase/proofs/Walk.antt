@@ -1,4 +1,4 @@
--- n equal ticks in closed form are n ticks one after the other.
+-- Ticks one after the other, and n equal ones in closed form.
 -- Assumes nothing.
 use Prim.Native.Nat.{ℕ, zero, suc, _+_, _-_, _*_, _≤_, _<_, min}
 use native.Mathlib.Nat.{not-suc-le-zero}
@@ -61,6 +61,15 @@ again (On (Curve Iec)) false settings g n state = same-state (kept-again setting
 again (On (Curve Ansi)) false settings g n state = same-state (drain-again _ _ _) refl (count-again _ _) refl
 
 -- ---- the walk
+
+module _ (settings : Settings) (state : PhaseState) (sample : ℕ → ℕ) where
+  pub after-none : phaseAfter settings state sample 0 ≡ state
+  unfolding phaseAfter
+  after-none = refl
+
+  pub after-next : (n : ℕ) → phaseAfter settings state sample (suc n) ≡ nextState settings (phaseAfter settings state sample n) (sample n)
+  unfolding phaseAfter
+  after-next n = refl
 
 from-one : (settings : Settings) (g n : ℕ) (state : PhaseState) → stateAfter settings g (suc n) state ≡ advanced settings g (suc n) state
 unfolding phaseAfter nextState phaseStart

@@ -30,11 +30,11 @@ lossAt settings g = lossOf (settings .operation) (ratioOf g (settings .«start_c
 
 -- 2. as E3 amends it: "a phase that was started on its last tick .. stays started while g is at least 95 x s; a phase that wasn't
 -- still needs g greater than 100 x s." Which of them it is, its field tells (E7): "E3 reads that."
-abbrev pub startedBy : Bool → Settings → ℕ → Bool
-startedBy was settings g = cond was (leb (95 * settings .«start_current») g) (ltb (100 * settings .«start_current») g)
+abbrev pub startedAfter : Bool → Settings → ℕ → Bool
+startedAfter was settings g = cond was (leb (95 * settings .«start_current») g) (ltb (100 * settings .«start_current») g)
 
 unfoldable pub started : Settings → PhaseState → ℕ → Bool
-started settings state g = startedBy (state .started) settings g
+started settings state g = startedAfter (state .started) settings g
 
 -- "goes up by 1 (stops at 60,000)", of run and of drop
 abbrev pub countUp : ℕ → ℕ

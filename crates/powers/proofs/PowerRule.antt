@@ -1,4 +1,5 @@
--- X(m) is the least number of document 01's power rule at each ratio from 101 on, how large it is, and how a table shows it.
+-- X(m) is the least number of document 01's power rule at each ratio from 101 on, how large it is, that it never rises with m, and how a
+-- table shows it.
 -- Assumes nothing.
 use Prim.Native.Nat.{ℕ, zero, suc, _+_, _-_, _*_, _^_, _≤_, _<_}
 use native.Mathlib.Nat.{pow-zero, pow-suc, mul-zero, mul-assoc, mul-comm, add-mul, mul-mul-mul-comm, pow-le-pow-left, one-le-pow, mul-le-mul-left, mul-le-mul-right, le-of-mul-le-mul-right, le-trans, le-antisymm, lt-of-not-le, not-le-of-lt, eq-or-lt-of-le}
@@ -54,7 +55,6 @@ least-of m x e =
       fewer = λ y h. lt-of-not-le (λ f. not-le-of-lt (leb-false _ _ (not-true _ (t .1))) (enough-up m y (x - 1) (omega arith) f));
     }
 
--- it is no more than any number that is enough
 not-more : {m x y : ℕ} → Least m x → 100 * (y + 1000000) ^ 50 ≤ m * y ^ 50 → x ≤ y
 not-more {m} {x} {y} least enough =
     omega (arith, lt-of-not-le {n = suc y} {m = x} (λ h. not-le-of-lt (least .fewer y h) enough))
@@ -121,6 +121,7 @@ X-at-least m low high =
     lt-of-not-le
     (λ h. not-le-of-lt (lit< {m = 2000 * 1000000 ^ 50} tt) (le-trans (enough-up m (X m) 1000000 h (power-rule m low .enough)) (mul-le-mul-right (1000000 ^ 50) high)))
 
+-- at most any number that is enough
 pub X-within : (m x : ℕ) → 101 ≤ m → 100 * (x + 1000000) ^ 50 ≤ m * x ^ 50 → X m ≤ x
 X-within m x low enough = not-more (power-rule m low) enough
 
