@@ -17,11 +17,13 @@ fn whole(n: u64) {
     digit(n);
 }
 
-// A number of at most four digits, with nothing before it.
-pub(crate) fn number(n: u64) {
-    if 1000 <= n {
-        digit(n / 1000);
+// A tick of at most three digits; 0 is none.
+pub(crate) fn trip_tick(tick: u32) {
+    if tick == 0 {
+        say(b"none");
+        return;
     }
+    let n = tick as u64;
     if 100 <= n {
         digit(n / 100);
     }

@@ -1,4 +1,4 @@
-// The class examples and published curve points, run through the module and compared with what they should be.
+// The class examples, published curve points and pairs of recordings, run through the module and compared with what they should be.
 mod curves;
 mod line;
 mod pairs;

@@ -1,18 +1,11 @@
 // More current is never slower: pairs of recordings of one phase, the second with at least the current of the first at every tick.
-use crate::line::number;
 use crate::line::say;
+use crate::line::trip_tick;
 use crate::line::verdict;
 use crate::phases::settings_of;
 use phase::PhaseState;
 use phase::Settings;
 use phase::tick::tick;
-
-// So many ticks, each with this sample of the first recording and this one of the second.
-struct Stretch {
-    ticks: u32,
-    first: u32,
-    second: u32,
-}
 
 // How far both have come. A first trip of 0 is none.
 struct Pair {
@@ -22,17 +15,6 @@ struct Pair {
     first_trip: u32,
     second_trip: u32,
     never_behind: bool,
-}
-
-fn begin() -> Pair {
-    Pair {
-        ticks: 0,
-        first: PhaseState::clear(),
-        second: PhaseState::clear(),
-        first_trip: 0,
-        second_trip: 0,
-        never_behind: true,
-    }
 }
 
 // The first tick with the trip on: the one found before, else this one where its trip is on.
@@ -62,41 +44,42 @@ fn step(settings: Settings, pair: Pair, first: u32, second: u32) -> Pair {
     }
 }
 
-fn run_both(settings: Settings, pair: Pair, stretch: Stretch) -> Pair {
+// So many ticks of both, each with these samples.
+fn run_both(settings: Settings, pair: Pair, ticks: u32, first: u32, second: u32) -> Pair {
     let mut both = pair;
-    for _ in 0..stretch.ticks {
-        both = step(settings, both, stretch.first, stretch.second);
+    for _ in 0..ticks {
+        both = step(settings, both, first, second);
     }
     both
 }
 
-fn trip_tick(tick: u32) {
-    if tick == 0 {
-        say(b"none");
-    } else {
-        number(tick as u64);
-    }
-}
-
-// A fault, a dip and a fault again: the first trip of each, and whether the second was ever behind.
-fn compare(operation: u32, fault: Stretch, dip: Stretch, again: Stretch) {
+// So many ticks of a fault, a dip of so many, and the fault again for 400: the first trips, and whether the second was ever behind.
+fn compare(
+    operation: u32,
+    fault: u32,
+    first: u32,
+    second: u32,
+    dip: u32,
+    first_dip: u32,
+    second_dip: u32,
+) {
     let settings = settings_of(operation, 200);
-    let started = run_both(settings, begin(), fault);
-    let dipped = run_both(settings, started, dip);
-    let done = run_both(settings, dipped, again);
+    let clear = Pair {
+        ticks: 0,
+        first: PhaseState::clear(),
+        second: PhaseState::clear(),
+        first_trip: 0,
+        second_trip: 0,
+        never_behind: true,
+    };
+    let started = run_both(settings, clear, fault, first, second);
+    let dipped = run_both(settings, started, dip, first_dip, second_dip);
+    let done = run_both(settings, dipped, 400, first, second);
     say(b": first trips ");
     trip_tick(done.first_trip);
     say(b" and ");
     trip_tick(done.second_trip);
     verdict(done.never_behind);
-}
-
-fn stretch_of(ticks: u32, first: u32, second: u32) -> Stretch {
-    Stretch {
-        ticks,
-        first,
-        second,
-    }
 }
 
 pub(crate) fn pairs_of_recordings() {
@@ -107,31 +90,11 @@ pub(crate) fn pairs_of_recordings() {
         b"Start current 200. It agrees if the second's sum, run and trip are at no tick behind the first's.\n",
     );
     say(b"IEC ExtInv, 15 and 16 times the setting, a dip of 59 ticks to 0 and to 50 %");
-    compare(
-        4,
-        stretch_of(100, 300000, 320000),
-        stretch_of(59, 0, 10000),
-        stretch_of(300, 300000, 320000),
-    );
+    compare(4, 100, 300000, 320000, 59, 0, 10000);
     say(b"IEC ExtInv, 15 times the setting, a dip of 60 ticks to just below 95 % and to 95 %");
-    compare(
-        4,
-        stretch_of(100, 300000, 300000),
-        stretch_of(60, 18999, 19000),
-        stretch_of(400, 300000, 300000),
-    );
+    compare(4, 100, 300000, 300000, 60, 18999, 19000);
     say(b"ANSI Inv, 20 times the setting, a dip of 50 ticks to 0 and to 90 %");
-    compare(
-        6,
-        stretch_of(100, 400000, 400000),
-        stretch_of(50, 0, 18000),
-        stretch_of(100, 400000, 400000),
-    );
+    compare(6, 100, 400000, 400000, 50, 0, 18000);
     say(b"Definite, just above the setting, a dip of 60 ticks to just below 95 % and to 95 %");
-    compare(
-        1,
-        stretch_of(30, 20001, 20001),
-        stretch_of(60, 18999, 19000),
-        stretch_of(30, 20001, 20001),
-    );
+    compare(1, 30, 20001, 20001, 60, 18999, 19000);
 }

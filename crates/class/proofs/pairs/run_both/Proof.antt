@@ -6,10 +6,10 @@ use Rattle.class.proofs.pairs.run_both.Statement.{statement}
 use Rattle.class.proofs.pairs.run_both.Tie as tie
 
 abbrev Inv-loop : tie.InvT-loop
-Inv-loop settings stretch both₀ counter₀ end both counter = counter ≤ end
+Inv-loop settings ticks first second both₀ counter₀ both counter = counter ≤ ticks
 
 abbrev μ-loop : tie.MeasureT-loop
-μ-loop settings stretch both₀ counter₀ end both counter = end - counter
+μ-loop settings ticks first second both₀ counter₀ both counter = ticks - counter
 
 loop-holds : tie.Need-loop-holds Inv-loop μ-loop
 loop-holds c = search needs
