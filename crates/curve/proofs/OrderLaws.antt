@@ -110,7 +110,7 @@ time-at-110 op low high =
     rw (operate-time-by-parts op 110 low high (omega arith) (omega arith))
     (le-trans (add-le-add (le-refl (row .c)) (part-at-110 (row .a) (row .k))) (leb-true _ longestAt110 quick))
 
--- its share
+-- and its gain
 abbrev pub leastGain : ℕ
 leastGain = 83333
 
