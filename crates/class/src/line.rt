@@ -18,7 +18,7 @@ fn whole(n: u64) {
 }
 
 // A tick of at most three digits; 0 is none.
-pub(crate) fn trip_tick(tick: u32) {
+pub(crate) fn tick_or_none(tick: u32) {
     if tick == 0 {
         say(b"none");
         return;

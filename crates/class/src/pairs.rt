@@ -1,6 +1,6 @@
 // More current is never slower: pairs of recordings of one phase, the second with at least the current of the first at every tick.
 use crate::line::say;
-use crate::line::trip_tick;
+use crate::line::tick_or_none;
 use crate::line::verdict;
 use crate::phases::settings_of;
 use phase::PhaseState;
@@ -76,9 +76,9 @@ fn compare(
     let dipped = run_both(settings, started, dip, first_dip, second_dip);
     let done = run_both(settings, dipped, 400, first, second);
     say(b": first trips ");
-    trip_tick(done.first_trip);
+    tick_or_none(done.first_trip);
     say(b" and ");
-    trip_tick(done.second_trip);
+    tick_or_none(done.second_trip);
     verdict(done.never_behind);
 }
 
@@ -87,7 +87,7 @@ pub(crate) fn pairs_of_recordings() {
         b"\nMore current is never slower: two recordings, the second with at least the current of the first at every tick\n",
     );
     say(
-        b"Start current 200. It agrees if the second's sum, run and trip are at no tick behind the first's.\n",
+        b"Start current 200, time multiplier 1, delays 40, reset time 60. It agrees if the second's sum, run and trip are at no tick behind the first's.\n",
     );
     say(b"IEC ExtInv, 15 and 16 times the setting, a dip of 59 ticks to 0 and to 50 %");
     compare(4, 100, 300000, 320000, 59, 0, 10000);

@@ -111,16 +111,16 @@ time-at-110 op low high =
     (le-trans (add-le-add (le-refl (row .c)) (part-at-110 (row .a) (row .k))) (leb-true _ longestAt110 quick))
 
 -- and its gain
-abbrev pub leastGain : ℕ
-leastGain = 83333
+abbrev pub leastGainFrom110 : ℕ
+leastGainFrom110 = 83333
 
-pub gain-from-110 : (op m : ℕ) → 2 ≤ op → op ≤ 12 → 110 ≤ m → m ≤ 2000 → leastGain ≤ gainOf op m
+pub gain-from-110 : (op m : ℕ) → 2 ≤ op → op ≤ 12 → 110 ≤ m → m ≤ 2000 → leastGainFrom110 ≤ gainOf op m
 gain-from-110 op m low high least most =
     let given : hasOperateTime op 110 ≡ true = rw (is-in-range 2 12 op low high) refl in
-    let at-110 : leastGain ≤ 10 ^ 14 / operateTime op 110 =
+    let at-110 : leastGainFrom110 ≤ 10 ^ 14 / operateTime op 110 =
     le-div-iff-mul-le (le-trans (lit≤ tt) (operate-time-at-least op 110 given)) .1 (omega (arith, time-at-110 op low high)) in
     le-trans (rw (gain-by-time op 110) at at-110) (gain-never-falls op 110 m least most)
 
-pub long-inverse-gain-at-110 : gainOf 5 110 ≡ leastGain
+pub long-inverse-gain-at-110 : gainOf 5 110 ≡ leastGainFrom110
 unfolding gainOf operateTime constantsOf roundedUp
 long-inverse-gain-at-110 = refl

@@ -17,7 +17,7 @@ use Rattle.jumps.proofs.JumpAccepted.{jump-accepted, jump-tick-accepted
 use Rattle.jumps.proofs.FirstOfLaws.{FirstAt, Never, first-same, none-means, first-means, first-is, never-is}
 use Rattle.jumps.proofs.JumpMeans.{trip-of, named, unnamed, above-none}
 use Rattle.phase.proofs.KeepsValid.{ticks-keep-accepted}
-use Rattle.phase.proofs.Walk.{after-none, after-next}
+use Rattle.phase.proofs.Walk.{phase-after-none, phase-after-next}
 
 -- ---- the statement
 
@@ -44,11 +44,11 @@ pub record QuickSum (settings : Settings) (state : PhaseState) (g count : ℕ) :
 -- ---- the calls are the walked ticks
 
 calls-are-ticks : (settings : Settings) (g n : ℕ) (state : PhaseState) → tickRefusal settings state ≡ 0 → callsAfter settings g n state ≡ stateAfter settings g n state
-calls-are-ticks settings g zero state e = sym (after-none settings state (always g))
+calls-are-ticks settings g zero state e = sym (phase-after-none settings state (always g))
 calls-are-ticks settings g (suc n) state e =
     ap (λ (before : PhaseState). tickAnswer settings before g .state) (calls-are-ticks settings g n state e)
     ∙ ap (λ (answer : Ticked). answer .state) (tick-accepted settings (stateAfter settings g n state) g (ticks-keep-accepted settings g n state e))
-    ∙ sym (after-next settings state (always g) n)
+    ∙ sym (phase-after-next settings state (always g) n)
 
 trip-is-called : (settings : Settings) (state : PhaseState) (g k : ℕ) → tickRefusal settings state ≡ 0 → tripAt settings state (always g) (suc k) ≡ callTrips settings g state (suc k)
 trip-is-called settings state g k e =

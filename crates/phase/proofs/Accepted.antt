@@ -50,6 +50,9 @@ pub accepted-settings : (settings : Settings) → settingsRefusal settings ≡ 0
 unfolding settingsRefusal
 accepted-settings settings e = e
 
+pub settings-in-range : (settings : Settings) → settingsRefusal settings ≡ 0 → InRange settings
+settings-in-range settings e = settings-passed settings 0 (accepted-settings settings e) .0
+
 pub valid-in-limits : (settings : Settings) (state : PhaseState) → valid settings state ≡ true → InLimits settings state
 unfolding valid
 valid-in-limits settings state e =

@@ -1,5 +1,6 @@
--- The latest trip (02, E8): on any curve a phase held at a ratio of 110 or more from the clear state has tripped by tick 18,000,073, and
--- IEC LongInv at 110 with the highest time multiplier first trips at that tick. These are walked ticks, and more of them than a jump has.
+-- The latest trip (02, E8): on any curve, with start only off, a phase held at a ratio of 110 or more from the clear state has tripped by
+-- tick 18,000,073, and IEC LongInv at 110 with the highest time multiplier first trips at that tick. These are walked ticks, and more of
+-- them than a jump has.
 -- Assumes nothing.
 use Prim.Native.Nat.{ℕ, zero, suc, _*_, _^_, _≤_, _<_, min}
 use native.Mathlib.Nat.{le-refl, le-trans, mul-le-mul, mul-le-mul-right, zero-add}
@@ -9,7 +10,7 @@ use mathlib.Core.Path.{_≡_, refl, _∙_}
 use borrow.Author.Tests.{eq-eqb, le-leb, leb-true, leb-false, lt-leb, lt-ltb}
 use lib.Dec.{leb}
 use Rattle.curve.specs.Ratio.{ratioOf}
-use Rattle.curve.proofs.OrderLaws.{leastGain, gain-from-110, long-inverse-gain-at-110}
+use Rattle.curve.proofs.OrderLaws.{leastGainFrom110, gain-from-110, long-inverse-gain-at-110}
 use Rattle.curve.proofs.RatioLaws.{ratio-at-most, ratio-between, ratio-reached}
 use Rattle.phase.specs.declared.settings.Settings.{Settings}
 use Rattle.phase.specs.device.Ranges.{InRange}
@@ -17,7 +18,7 @@ use Rattle.phase.specs.Settings.{settingsRefusal, tripLevel}
 use Rattle.phase.specs.State.{runLimit, clearState}
 use Rattle.phase.specs.Tick.{gainAt, started}
 use Rattle.phase.specs.Ticks.{tripAt, always}
-use Rattle.phase.proofs.Accepted.{accepted-settings, settings-passed}
+use Rattle.phase.proofs.Accepted.{settings-in-range}
 use Rattle.phase.proofs.KeepsValid.{clear-is-valid}
 use Rattle.phase.proofs.TripLaws.{curves-from-2}
 use Rattle.phase.proofs.TwoRuns.{more-is-never-slower}
@@ -29,7 +30,7 @@ latestTick = 18000073
 -- "with start only off and any curve operation"
 module _ (settings : Settings) (accepted : settingsRefusal settings ≡ 0) (off : settings .«start_only» ≡ 0) (curve : 2 ≤ settings .operation) where
   range : InRange settings
-  range = settings-passed settings 0 (accepted-settings settings accepted) .0
+  range = settings-in-range settings accepted
 
   above-0 : 0 < settings .«start_current»
   above-0 = le-trans (omega arith) (range .start-low)
@@ -52,13 +53,13 @@ module _ (settings : Settings) (accepted : settingsRefusal settings ≡ 0) (off 
     held-trips zero late = absurd (omega arith)
     held-trips (suc n) late =
         let level : tripLevel settings ≤ 1500 * 10 ^ 9 = mul-le-mul-right (10 ^ 9) (range .multiplier-high) in
-        let gains : latestTick * leastGain ≤ suc n * gainAt settings g =
+        let gains : latestTick * leastGainFrom110 ≤ suc n * gainAt settings g =
         mul-le-mul late (gain-from-110 (settings .operation) _ curve (range .operation) held (ratio-at-most g (settings .«start_current»))) in
         trip-held n
         ∙ rw (le-leb (tripLevel settings) (min (suc n * gainAt settings g) (tripLevel settings)) (omega arith), le-leb (settings .«minimum_delay») (min (suc n) runLimit) (omega (arith, range .minimum-high)))
 
     -- and off before it, at the least gain and the highest level
-    not-before : gainAt settings g ≡ leastGain → settings .«time_multiplier» ≡ 1500 → (n : ℕ) → n < latestTick → tripAt settings clearState (always g) n ≡ false
+    not-before : gainAt settings g ≡ leastGainFrom110 → settings .«time_multiplier» ≡ 1500 → (n : ℕ) → n < latestTick → tripAt settings clearState (always g) n ≡ false
     not-before gain multiplier zero early = refl
     not-before gain multiplier (suc n) early =
         let short : suc n * gainAt settings g < tripLevel settings = rw (gain, multiplier) (omega arith) in

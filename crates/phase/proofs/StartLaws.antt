@@ -38,7 +38,7 @@ field-is-start settings state g = field-by (kindOf (settings .operation)) (start
 
 -- ---- the order of starts
 
--- a phase is started wherever another is that has no larger sample, and was started before only if this one was
+-- of two phases, the second with no smaller sample and started before wherever the first was: it is started wherever the first is
 pub start-order : (settings : Settings) (first second : Bool) (g h : ℕ) → (first ≡ true → second ≡ true) → g ≤ h → startedAfter first settings g ≡ true → startedAfter second settings h ≡ true
 start-order settings true true g h on more e = le-leb _ h (omega (arith, leb-true _ g e))
 start-order settings true false g h on more e = absurd (false≢true (on refl))

@@ -25,7 +25,7 @@ use Rattle.phase.specs.Settings.{settingsRefusal, tripLevel}
 use Rattle.phase.specs.State.{runLimit, valid}
 use Rattle.phase.specs.Tick.{gainAt, lossAt, started, countUp, sumUp, keptTill, sumDown, runDown, nextBy, nextState, due, tripBy, phaseTrip}
 use Rattle.phase.specs.Ticks.{phaseAfter, tripAt}
-use Rattle.phase.proofs.Accepted.{accepted-settings, settings-passed, valid-in-limits}
+use Rattle.phase.proofs.Accepted.{settings-in-range, valid-in-limits}
 use Rattle.phase.proofs.KeepsValid.{kept-within, ticks-keep-valid}
 use Rattle.phase.proofs.StartLaws.{start-order}
 
@@ -39,8 +39,8 @@ pub record NeverSlower (settings : Settings) (state : PhaseState) (first second 
 
 -- ---- what goes on from tick to tick
 
--- of the states of both runs after as many ticks
-record Ahead (first second : PhaseState) : Type 0 where
+-- of the states of both runs after as many ticks: the second keeps up with the first
+record KeepsUp (first second : PhaseState) : Type 0 where
   sum : first .sum ≤ second .sum
   run : first .run ≤ second .run
   drop : second .drop ≤ first .drop
@@ -91,60 +91,60 @@ module _ (settings : Settings) (range : InRange settings) (g h : ℕ) (more : g 
   run-across Definite d a b less full = le-trans (kept-within settings d a a (le-refl a)) (omega arith)
   run-across (Curve rule) d a b less full = omega arith
 
-  next-order : (kind : Kind) (b c : Bool) (first second : PhaseState) → (b ≡ true → c ≡ true) → InLimits settings first → Ahead first second → Ahead (nextBy kind b settings g first) (nextBy kind c settings h second)
-  next-order Off b c first second on limits ahead =
+  next-order : (kind : Kind) (b c : Bool) (first second : PhaseState) → (b ≡ true → c ≡ true) → InLimits settings first → KeepsUp first second → KeepsUp (nextBy kind b settings g first) (nextBy kind c settings h second)
+  next-order Off b c first second on limits keeps =
       record { sum = omega arith; run = omega arith; drop = omega arith; started = λ e. e }
-  next-order (On timing) true false first second on limits ahead = absurd (false≢true (on refl))
-  next-order (On timing) true true first second on limits ahead =
+  next-order (On timing) true false first second on limits keeps = absurd (false≢true (on refl))
+  next-order (On timing) true true first second on limits keeps =
       record {
-        sum = sum-up-order timing (first .sum) (second .sum) (ahead .sum);
-        run = omega (arith, ahead .run);
+        sum = sum-up-order timing (first .sum) (second .sum) (keeps .sum);
+        run = omega (arith, keeps .run);
         drop = omega arith;
         started = λ e. refl;
       }
-  next-order (On timing) false true first second on limits ahead =
+  next-order (On timing) false true first second on limits keeps =
       record {
-        sum = sum-across timing _ (first .sum) (second .sum) (ahead .sum) (limits .sum);
-        run = run-across timing _ (first .run) (second .run) (ahead .run) (limits .run);
+        sum = sum-across timing _ (first .sum) (second .sum) (keeps .sum) (limits .sum);
+        run = run-across timing _ (first .run) (second .run) (keeps .run) (limits .run);
         drop = omega arith;
         started = λ e. refl;
       }
-  next-order (On timing) false false first second on limits ahead =
-      let shorter : countUp (second .drop) ≤ countUp (first .drop) = omega (arith, ahead .drop) in
+  next-order (On timing) false false first second on limits keeps =
+      let shorter : countUp (second .drop) ≤ countUp (first .drop) = omega (arith, keeps .drop) in
       record {
-        sum = sum-down-order timing _ _ (first .sum) (second .sum) shorter (ahead .sum);
-        run = run-down-order timing _ _ (first .run) (second .run) shorter (ahead .run);
+        sum = sum-down-order timing _ _ (first .sum) (second .sum) shorter (keeps .sum);
+        run = run-down-order timing _ _ (first .run) (second .run) shorter (keeps .run);
         drop = shorter;
         started = λ e. e;
       }
 
-  due-order : (timing : Timing) (first second : PhaseState) → Ahead first second → due timing settings first ≡ true → due timing settings second ≡ true
-  due-order Definite first second ahead e = le-leb _ _ (le-trans (leb-true _ _ e) (ahead .run))
-  due-order (Curve rule) first second ahead e =
+  due-order : (timing : Timing) (first second : PhaseState) → KeepsUp first second → due timing settings first ≡ true → due timing settings second ≡ true
+  due-order Definite first second keeps e = le-leb _ _ (le-trans (leb-true _ _ e) (keeps .run))
+  due-order (Curve rule) first second keeps e =
       let (sum, run) = both-true (leb (tripLevel settings) (first .sum)) (leb (settings .«minimum_delay») (first .run)) e in
-      rw (le-leb _ _ (le-trans (leb-true _ _ sum) (ahead .sum)), le-leb _ _ (le-trans (leb-true _ _ run) (ahead .run)))
+      rw (le-leb _ _ (le-trans (leb-true _ _ sum) (keeps .sum)), le-leb _ _ (le-trans (leb-true _ _ run) (keeps .run)))
 
-  trip-order : (kind : Kind) (b c : Bool) (first second : PhaseState) → (b ≡ true → c ≡ true) → Ahead first second → tripBy kind b settings first ≡ true → tripBy kind c settings second ≡ true
-  trip-order Off b c first second on ahead e = e
-  trip-order (On timing) b c first second on ahead e =
+  trip-order : (kind : Kind) (b c : Bool) (first second : PhaseState) → (b ≡ true → c ≡ true) → KeepsUp first second → tripBy kind b settings first ≡ true → tripBy kind c settings second ≡ true
+  trip-order Off b c first second on keeps e = e
+  trip-order (On timing) b c first second on keeps e =
       let (front, reached) = both-true (b && eqb (settings .«start_only») 0) (due timing settings first) e in
       let (isStarted, allowed) = both-true b (eqb (settings .«start_only») 0) front in
-      rw (on isStarted, allowed, due-order timing first second ahead reached)
+      rw (on isStarted, allowed, due-order timing first second keeps reached)
 
-  module _ (first second : PhaseState) (ahead : Ahead first second) where
+  module _ (first second : PhaseState) (keeps : KeepsUp first second) where
     starts : started settings first g ≡ true → started settings second h ≡ true
     unfolding started
-    starts = start-order settings (first .started) (second .started) g h (ahead .started) more
+    starts = start-order settings (first .started) (second .started) g h (keeps .started) more
 
-    stays-ahead : InLimits settings first → Ahead (nextState settings first g) (nextState settings second h)
+    still-keeps-up : InLimits settings first → KeepsUp (nextState settings first g) (nextState settings second h)
     unfolding nextState
-    stays-ahead limits =
-        next-order (kindOf (settings .operation)) (started settings first g) (started settings second h) first second starts limits ahead
+    still-keeps-up limits =
+        next-order (kindOf (settings .operation)) (started settings first g) (started settings second h) first second starts limits keeps
 
     trips : InLimits settings first → phaseTrip settings first g ≡ true → phaseTrip settings second h ≡ true
     unfolding phaseTrip
     trips limits =
-        trip-order (kindOf (settings .operation)) (started settings first g) (started settings second h) (nextState settings first g) (nextState settings second h) starts (stays-ahead limits)
+        trip-order (kindOf (settings .operation)) (started settings first g) (started settings second h) (nextState settings first g) (nextState settings second h) starts (still-keeps-up limits)
 
 -- ---- the two runs
 
@@ -152,21 +152,21 @@ module _ (settings : Settings) (range : InRange settings) (g h : ℕ) (more : g 
 -- as the first at every tick."
 module _ (settings : Settings) (accepted : settingsRefusal settings ≡ 0) (state : PhaseState) (v : valid settings state ≡ true) (first second : ℕ → ℕ) (ticks : ℕ) (more : (k : ℕ) → k < ticks → first k ≤ second k) where
   range : InRange settings
-  range = settings-passed settings 0 (accepted-settings settings accepted) .0
+  range = settings-in-range settings accepted
 
   limits : (k : ℕ) → InLimits settings (phaseAfter settings state first k)
   limits k = valid-in-limits settings _ (ticks-keep-valid settings state first k v)
 
-  always-ahead : (k : ℕ) → k ≤ ticks → Ahead (phaseAfter settings state first k) (phaseAfter settings state second k)
+  always-keeps-up : (k : ℕ) → k ≤ ticks → KeepsUp (phaseAfter settings state first k) (phaseAfter settings state second k)
   unfolding phaseAfter
-  always-ahead zero h = record { sum = le-refl _; run = le-refl _; drop = le-refl _; started = λ e. e }
-  always-ahead (suc k) h =
-      stays-ahead settings range (first k) (second k) (more k h) _ _ (always-ahead k (omega arith)) (limits k)
+  always-keeps-up zero h = record { sum = le-refl _; run = le-refl _; drop = le-refl _; started = λ e. e }
+  always-keeps-up (suc k) h =
+      still-keeps-up settings range (first k) (second k) (more k h) _ _ (always-keeps-up k (omega arith)) (limits k)
 
   trips-too : (k : ℕ) → k ≤ ticks → tripAt settings state first k ≡ true → tripAt settings state second k ≡ true
   trips-too zero h e = e
-  trips-too (suc k) h e = trips settings range (first k) (second k) (more k h) _ _ (always-ahead k (omega arith)) (limits k) e
+  trips-too (suc k) h e = trips settings range (first k) (second k) (more k h) _ _ (always-keeps-up k (omega arith)) (limits k) e
 
   pub more-is-never-slower : NeverSlower settings state first second ticks
   more-is-never-slower =
-      record { sum = λ k h. always-ahead k h .sum; run = λ k h. always-ahead k h .run; trip = trips-too }
+      record { sum = λ k h. always-keeps-up k h .sum; run = λ k h. always-keeps-up k h .run; trip = trips-too }

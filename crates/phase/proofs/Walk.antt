@@ -63,13 +63,13 @@ again (On (Curve Ansi)) false settings g n state = same-state (drain-again _ _ _
 -- ---- the walk
 
 module _ (settings : Settings) (state : PhaseState) (sample : ℕ → ℕ) where
-  pub after-none : phaseAfter settings state sample 0 ≡ state
+  pub phase-after-none : phaseAfter settings state sample 0 ≡ state
   unfolding phaseAfter
-  after-none = refl
+  phase-after-none = refl
 
-  pub after-next : (n : ℕ) → phaseAfter settings state sample (suc n) ≡ nextState settings (phaseAfter settings state sample n) (sample n)
+  pub phase-after-next : (n : ℕ) → phaseAfter settings state sample (suc n) ≡ nextState settings (phaseAfter settings state sample n) (sample n)
   unfolding phaseAfter
-  after-next n = refl
+  phase-after-next n = refl
 
 from-one : (settings : Settings) (g n : ℕ) (state : PhaseState) → stateAfter settings g (suc n) state ≡ advanced settings g (suc n) state
 unfolding phaseAfter nextState phaseStart

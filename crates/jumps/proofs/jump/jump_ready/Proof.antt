@@ -4,14 +4,14 @@ use native.Mathlib.Omega.{arith}
 use mathlib.Core.Path.{refl}
 use borrow.Author.Needs.{needs}
 use Rattle.jumps.proofs.FirstTrips.{first-trip-closed}
-use Rattle.phase.proofs.Walk.{after-none, ticks-closed}
+use Rattle.phase.proofs.Walk.{phase-after-none, ticks-closed}
 use Rattle.jumps.specs.Jump.{firstOf, firstTrip}
 use Rattle.jumps.proofs.jump.jump_ready.Statement.{statement}
 use Rattle.jumps.proofs.jump.jump_ready.Tie as tie
 
 returns : tie.Need-returns
 unfolding firstOf firstTrip
-returns c = rw (c .if1 .taken, after-none) refl
+returns c = rw (c .if1 .taken, phase-after-none) refl
 
 kind-of-requires : tie.Need-kind-of-requires
 kind-of-requires c κs = search needs
