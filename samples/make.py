@@ -1,5 +1,5 @@
 #!/usr/bin/env python3
-"""Writes the recordings of this folder, and the configurations. A recording is a settings line and data rows, one row a
+"""Writes the recordings of this folder, the configurations and the relays to grade. A recording is a settings line and data rows, one row a
 millisecond.
 
 A phase's current is in 0.01 % of rated current; with the start current 200 % (s 200), 40000 is twice the setting.
@@ -65,3 +65,7 @@ configuration("recorder_scaled.cfg", ("1.0", "10.0", "1.0"), 320)
 # The configuration of a recorder that lost power while it wrote: it ends in the last sample number.
 whole = (here / "recorder.cfg").read_bytes()
 (here / "recorder_cut.cfg").write_bytes(whole[:whole.index(b"1000,320") + len(b"1000,3")])
+# Relays to grade: IEC Inv with its multiplier of 0.30 above 0.15, and IEC ExtInv, which crosses the lower one.
+write_lines("upstream.settings", ["2,400,30,40,40,60,0"])
+write_lines("downstream.settings", ["2,200,15,40,40,60,0"])
+write_lines("crossing.settings", ["4,400,100,40,40,60,0"])

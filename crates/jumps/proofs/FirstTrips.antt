@@ -1,4 +1,4 @@
--- The first of n equal ticks with the phase trip on, in closed form.
+-- The first of n equal ticks with the phase trip on: in closed form, and what it means.
 -- Assumes nothing.
 use Prim.Native.Nat.{ℕ, zero, suc, _+_, _-_, _*_, _≤_, _<_, min, max}
 use native.Mathlib.Nat.{suc-mul, div-lt-iff-lt-mul, div-zero, mul-zero}
@@ -23,7 +23,8 @@ use Rattle.phase.specs.Settings.{tripLevel}
 use Rattle.phase.specs.device.Ranges.{InRange}
 use Rattle.phase.specs.State.{runLimit}
 use Rattle.phase.specs.Tick.{gainAt, started, due, tripBy}
-use Rattle.jumps.proofs.FirstOfLaws.{first-same, first-none, first-from}
+use Rattle.phase.specs.Ticks.{tripAt, always}
+use Rattle.jumps.proofs.FirstOfLaws.{FirstAt, Never, none-means, first-means, first-same, first-none, first-from}
 use Rattle.phase.proofs.Walk.{trip-closed}
 
 -- ---- tests
@@ -105,3 +106,14 @@ unfolding firstTrip
 first-trip-closed settings g n state range =
     first-same _ _ n (λ k. trip-closed settings g k state)
     ∙ trip-first (kindOf (settings .operation)) (started settings state g) (eqb (settings .«start_only») 0) settings g n state range refl
+
+-- ---- what it means, for the crates above
+
+module _ (settings : Settings) (g n : ℕ) (state : PhaseState) where
+  pub trips-first-at : (t : ℕ) → 0 < t → firstTrip settings g n state ≡ t → FirstAt (tripAt settings state (always g)) n t
+  unfolding firstTrip
+  trips-first-at t low e = first-means (tripAt settings state (always g)) n t low e
+
+  pub trips-never : firstTrip settings g n state ≡ 0 → Never (tripAt settings state (always g)) n
+  unfolding firstTrip
+  trips-never e = none-means (tripAt settings state (always g)) n e

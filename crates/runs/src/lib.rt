@@ -3,7 +3,6 @@
 mod configuration;
 mod portions;
 mod refusal;
-mod words;
 
 pub use configuration::read_configuration;
 pub use portions::Ended;

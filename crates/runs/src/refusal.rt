@@ -1,8 +1,6 @@
 // Why a recording was refused, in one line on standard error.
 ghost use mathlib.Core.Path.{_≡_};
 ghost use Rattle.files.specs.Replay.{refusalAtEnd};
-use crate::words::say_hint;
-use crate::words::say_refusal;
 use config::ConfigRead;
 use files::Replay;
 use program::say;
@@ -12,6 +10,7 @@ use steps::Configuration;
 use steps::END_ROOM;
 use steps::Form;
 use steps::refusals::WRONG_LAST_SAMPLE;
+use words::say_reason;
 
 // The end line without its LF.
 fn say_end(state: Replay) {
@@ -67,18 +66,6 @@ fn say_what(state: Replay, refusal: Refusal) -> usize {
     say_line(configuration, progress.done)
 }
 
-// Where it stands in the line, which only a refusal of a line's shape tells: no other has a field.
-fn say_place(refusal: Refusal) {
-    if refusal.field == 0 {
-        return;
-    }
-    say(b"byte ");
-    say_number(refusal.offset as u64);
-    say(b", field ");
-    say_number(refusal.field as u64);
-    say(b": ");
-}
-
 // Says nothing where nothing was refused. Answers the refusal's number, which is all that a contract can say of it.
 pub fn tell(state: Replay) -> u32
     ensures { λ r. ⌜ r ≡ refusalAtEnd state .number ⌝ }
@@ -90,13 +77,5 @@ pub fn tell(state: Replay) -> u32
     }
     say_end_of_record(state);
     say_what(state, refusal);
-    say(b": refused ");
-    say_number(number as u64);
-    say(b": ");
-    say_place(refusal);
-    say_refusal(number);
-    let hint = refusal.hint;
-    say_hint(hint);
-    say(b"\n");
-    number
+    say_reason(refusal)
 }

@@ -1,4 +1,4 @@
-// What each refusal number of a replay means, for a person. Each answers how many bytes were taken.
+// What each refusal number that a program can meet means. Each answers how many bytes were taken.
 use program::say;
 use rows::Hint;
 
@@ -59,7 +59,7 @@ pub(crate) fn say_hint(hint: Hint) -> usize {
     }
 }
 
-// In the words of document 01's table, and of document 02's E4 and E5.
+// In the words of document 01's table, and of document 02's E4, E5 and E9.
 pub(crate) fn say_refusal(refusal: u32) -> usize {
     match refusal {
         1..=7 => say_setting(refusal),
@@ -68,6 +68,7 @@ pub(crate) fn say_refusal(refusal: u32) -> usize {
         18..=27 => say_configuration(refusal),
         28 => say(b"the configuration's last sample number isn't the rows done"),
         29..=33 => say_flaw(refusal),
+        34 => say(b"the operation is 0 or 1, or start only is on: there is no curve that trips"),
         _ => say(b"the number has no words"),
     }
 }

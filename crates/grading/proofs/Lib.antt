@@ -1,0 +1,9 @@
+pub mod RefusalLaws
+pub mod FirstTripLaws
+pub mod SignedLaws
+pub mod ListLaws
+pub mod SmallestLaws
+pub mod MarginLaws
+pub mod PassLaws
+pub mod MarginsLaws
+pub mod ListedLaws
