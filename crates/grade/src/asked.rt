@@ -33,6 +33,7 @@ fn margin_from(text: &[u8], from: usize) -> Asked {
     if MOST < ticks {
         return wrong();
     }
+    // A difference to 0 has the sign.
     let wanted = if from == 0 {
         difference(ticks, 0)
     } else {
@@ -55,7 +56,7 @@ fn margin_of(text: &[u8]) -> Asked {
     margin_from(text, 0)
 }
 
-// Not right where there is no argument, more than one, or one that is no margin.
+// Not right where there is no argument, more than one, or one that is no margin. One that does not fit its memory comes as no bytes.
 pub(crate) fn asked_margin() -> Asked {
     if os::arg_count() != 2 {
         return wrong();

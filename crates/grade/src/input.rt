@@ -26,7 +26,7 @@ pub(crate) struct RefusedRelay {
 }
 
 // Unread: a read failed, which was told.
-pub(crate) enum Pair {
+pub(crate) enum Lines {
     Unread,
     Refused(RefusedRelay),
     Read(Relays),
@@ -65,7 +65,8 @@ struct Line {
     next: usize,
 }
 
-// The line of the first n bytes held. (A part of an array that is a field can't be lent: the part is made here.)
+// The line of the first n bytes held. (A part of an array that is a field can't be lent: the part is made here.) There are as many:
+// the test is there for the proof.
 fn read_held(held: &[u8], n: usize) -> SettingsRead {
     if held.len() < n {
         return read_settings_line(held);
@@ -93,16 +94,16 @@ fn refusal_of(read: SettingsRead) -> Refusal {
     }
 }
 
-fn refused(relay: Relay, refusal: Refusal) -> Pair {
-    Pair::Refused(RefusedRelay { relay, refusal })
+fn refused(relay: Relay, refusal: Refusal) -> Lines {
+    Lines::Refused(RefusedRelay { relay, refusal })
 }
 
-fn accepted(upstream: SettingsRead, downstream: SettingsRead) -> Pair {
+fn accepted(upstream: SettingsRead, downstream: SettingsRead) -> Lines {
     match upstream {
         SettingsRead::Refused(refusal) => refused(Relay::Upstream, refusal),
         SettingsRead::Accepted(above) => match downstream {
             SettingsRead::Refused(refusal) => refused(Relay::Downstream, refusal),
-            SettingsRead::Accepted(below) => Pair::Read(Relays {
+            SettingsRead::Accepted(below) => Lines::Read(Relays {
                 upstream: above,
                 downstream: below,
             }),
@@ -111,7 +112,7 @@ fn accepted(upstream: SettingsRead, downstream: SettingsRead) -> Pair {
 }
 
 // The shape of a line goes before any setting; a refusal of the shape has a field. Of the settings the lowest number is told.
-fn pair_of(upstream: SettingsRead, downstream: SettingsRead) -> Pair {
+fn lines_of(upstream: SettingsRead, downstream: SettingsRead) -> Lines {
     let above = refusal_of(upstream);
     if above.field != 0 {
         return refused(Relay::Upstream, above);
@@ -129,16 +130,16 @@ fn pair_of(upstream: SettingsRead, downstream: SettingsRead) -> Pair {
     }
 }
 
-pub(crate) fn read_pair() -> Pair {
+pub(crate) fn read_lines() -> Lines {
     let mut bytes = [0u8; ROOM];
     let got = read_input(&mut bytes);
     if got.failed {
-        return Pair::Unread;
+        return Lines::Unread;
     }
     let input = &bytes[..got.count];
     let upstream = read_line(input, 0);
     let downstream = read_line(input, upstream.next);
     let above = upstream.read;
     let below = downstream.read;
-    pair_of(above, below)
+    lines_of(above, below)
 }

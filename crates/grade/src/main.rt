@@ -10,8 +10,8 @@ use grading::margin::margin_at;
 use grading::margins::Graded;
 use grading::margins::margins;
 use grading::refusal::Relay;
-use input::Pair;
-use input::read_pair;
+use input::Lines;
+use input::read_lines;
 use output::write_end;
 use output::write_margin;
 use phase::Settings;
@@ -76,15 +76,15 @@ fn main() {
         );
         return;
     }
-    let pair = read_pair();
-    match pair {
-        Pair::Unread => {}
-        Pair::Refused(refused) => {
+    let lines = read_lines();
+    match lines {
+        Lines::Unread => {}
+        Lines::Refused(refused) => {
             let relay = refused.relay;
             let refusal = refused.refusal;
             refuse(relay, refusal);
         }
-        Pair::Read(relays) => {
+        Lines::Read(relays) => {
             let upstream = relays.upstream;
             let downstream = relays.downstream;
             grade(upstream, downstream, asked.wanted);

@@ -62,10 +62,10 @@ fn write_line(line: &mut [u8], n: usize) -> bool {
 // `ratio,upstream,downstream,difference`
 pub(crate) fn write_margin(ratio: u32, margin: Margin) -> bool {
     let mut line = [0u8; ROOM];
-    let upstream = put_first(&mut line, 0, ratio as u64);
-    let downstream = put_first(&mut line, upstream, margin.upstream);
-    let difference = put_first(&mut line, downstream, margin.downstream);
-    let end = put_signed(&mut line, difference, margin.difference);
+    let at_upstream = put_first(&mut line, 0, ratio as u64);
+    let at_downstream = put_first(&mut line, at_upstream, margin.upstream);
+    let at_difference = put_first(&mut line, at_downstream, margin.downstream);
+    let end = put_signed(&mut line, at_difference, margin.difference);
     write_line(&mut line, end)
 }
 
@@ -73,11 +73,11 @@ pub(crate) fn write_margin(ratio: u32, margin: Margin) -> bool {
 pub(crate) fn write_end(graded: Graded) -> bool {
     let mut line = [0u8; ROOM];
     let refusal = graded.refusal;
-    let count = put(&mut line, 0, b"end,");
-    let smallest = put_first(&mut line, count, graded.count as u64);
-    let comma = put_signed(&mut line, smallest, graded.smallest);
-    let ratio = put(&mut line, comma, b",");
-    let number = put_first(&mut line, ratio, graded.ratio as u64);
-    let end = put_number(&mut line, number, refusal.number as u64);
+    let at_count = put(&mut line, 0, b"end,");
+    let at_smallest = put_first(&mut line, at_count, graded.count as u64);
+    let after_it = put_signed(&mut line, at_smallest, graded.smallest);
+    let at_ratio = put(&mut line, after_it, b",");
+    let at_number = put_first(&mut line, at_ratio, graded.ratio as u64);
+    let end = put_number(&mut line, at_number, refusal.number as u64);
     write_line(&mut line, end)
 }

@@ -17,6 +17,7 @@ use Rattle.phase.specs.Settings.{tripLevel}
 use Rattle.phase.specs.State.{clearState}
 use Rattle.phase.specs.Tick.{gainAt, started}
 use Rattle.phase.specs.Ticks.{tripAt, always}
+use Rattle.phase.proofs.StartLaws.{clear-starts}
 use Rattle.phase.proofs.TripLaws.{curves-from-2}
 use Rattle.jumps.specs.Jump.{firstTrip}
 use Rattle.jumps.specs.device.FirstTrip.{oneOf, waitFor, firstFull}
@@ -57,8 +58,9 @@ module _ (settings : Settings) (trips : Trips settings) (ratio : ℕ) (low : low
       (ratio-between (sampleAt settings ratio) (settings .«start_current») ratio high (le-refl (sampleAt settings ratio)) (omega (arith, above-0)))
 
   starts : started settings clearState (sampleAt settings ratio) ≡ true
-  unfolding started
-  starts = lt-ltb _ (sampleAt settings ratio) (omega (arith, mul-le-mul-right (settings .«start_current») low, above-0))
+  starts =
+      clear-starts settings (sampleAt settings ratio)
+      (omega (arith, mul-le-mul-right (settings .«start_current») low, above-0))
 
   -- the first of n ticks, for any n
   first-of : (n : ℕ) → firstTrip settings (sampleAt settings ratio) n clearState ≡ cond (eqb (gainOf (settings .operation) ratio) 0) 0 (oneOf n (max (settings .«minimum_delay») (roundedUp (tripLevel settings) (gainOf (settings .operation) ratio))))

@@ -21,7 +21,7 @@ use Rattle.grading.specs.declared.margins.Smallest.{Smallest}
 use Rattle.grading.specs.declared.refusal.Relay.the-variants.{Neither}
 use Rattle.grading.specs.Margin.{lowestRatio, highestRatio, differenceAt}
 use Rattle.grading.specs.Margins.{upFrom, those, ratioCount, tooClose, smallest, smallestAt, marginsOf, MarginsAnswer}
-use Rattle.grading.specs.Refusal.{named}
+use Rattle.grading.specs.Refusal.{refusalOf}
 use Rattle.grading.specs.device.Pass.{Counted, counted, smallerOf}
 use Rattle.grading.proofs.ListLaws.{up-next, those-one, those-append, those-at-most}
 use Rattle.grading.proofs.SmallestLaws.{SmallestOf, first-is-smallest, smaller-found, none-found, smallest-alone, smallest-is}
@@ -125,7 +125,7 @@ unfolding smallest smallestAt
 smallest-means upstream downstream = smallest-is (differenceAt upstream downstream) lowestRatio ratioCount (omega arith) _ refl
 
 abbrev pub answerOf : ℤ → ℕ → Counted → MarginsAnswer
-answerOf z at c = record { answer = record { refusal = named Neither 0; count = c .count; smallest = z; ratio = at }; list = c .list }
+answerOf z at c = record { answer = record { refusal = refusalOf Neither 0; count = c .count; smallest = z; ratio = at }; list = c .list }
 
 module _ (upstream downstream : Settings) (wanted : ℤ) (given : List ℕ) where
   all-listed : (ratio : ℕ) → ratio ≡ highestRatio + 1 → listedBefore (differenceAt upstream downstream) wanted ratio ≡ tooClose upstream downstream wanted

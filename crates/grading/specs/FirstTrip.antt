@@ -8,7 +8,8 @@ use Rattle.phase.specs.State.{clearState}
 abbrev pub sampleAt : Settings → ℕ → ℕ
 sampleAt settings ratio = ratio * settings .«start_current»
 
--- a phase that has not tripped by then never does: `no-later-trip` of `proofs/`
+-- so many ticks fill the highest trip level even at a gain of 1: a curve that has not tripped by then never does, `never-trips` of
+-- `proofs/`
 abbrev pub longestWait : ℕ
 longestWait = 1500 * 10 ^ 9
 

@@ -11,7 +11,7 @@ use Rattle.grading.specs.declared.margin.Margin.{Margin}
 use Rattle.grading.specs.declared.refusal.Refusal.{Refusal}
 use Rattle.grading.specs.declared.refusal.Relay.the-variants.{Neither}
 use Rattle.grading.specs.FirstTrip.{firstTripAt}
-use Rattle.grading.specs.Refusal.{named, pairRefusal}
+use Rattle.grading.specs.Refusal.{refusalOf, pairRefusal}
 use Rattle.grading.specs.Refusals.{wrongRatio}
 
 -- "the signed difference, upstream minus downstream"
@@ -33,7 +33,7 @@ marginRefusal upstream downstream ratio =
 abbrev pub marginOf : Settings → Settings → ℕ → Margin
 marginOf upstream downstream ratio =
     record {
-      refusal = named Neither 0;
+      refusal = refusalOf Neither 0;
       upstream = firstTripAt upstream ratio;
       downstream = firstTripAt downstream ratio;
       difference = differenceAt upstream downstream ratio;

@@ -12,7 +12,7 @@ use Rattle.grading.specs.declared.margins.Graded.{Graded}
 use Rattle.grading.specs.declared.refusal.Refusal.{Refusal}
 use Rattle.grading.specs.declared.refusal.Relay.the-variants.{Neither}
 use Rattle.grading.specs.Margin.{lowestRatio, differenceAt}
-use Rattle.grading.specs.Refusal.{named, pairRefusal}
+use Rattle.grading.specs.Refusal.{refusalOf, pairRefusal}
 use Rattle.grading.specs.Refusals.{shortList}
 
 -- so many whole numbers, from `low` on
@@ -25,7 +25,7 @@ unfoldable pub those : (ℕ → Bool) → List ℕ → List ℕ
 those test [] = []
 those test (x ∷ xs) = cond (test x) (x ∷ those test xs) (those test xs)
 
--- the smallest of some numbers
+-- the smallest of some numbers; of none 0, which nothing reads
 unfoldable pub minimum : List ℤ → ℤ
 minimum [] = pos 0
 minimum (z ∷ []) = z
@@ -46,6 +46,7 @@ tooClose upstream downstream wanted = those (λ ratio. ltZ (differenceAt upstrea
 unfoldable pub smallest : Settings → Settings → ℤ
 smallest upstream downstream = minimum (map (differenceAt upstream downstream) ratios)
 
+-- equal, as a test
 abbrev pub sameZ : ℤ → ℤ → Bool
 sameZ a b = leZ a b && leZ b a
 
@@ -69,7 +70,7 @@ marginsOf upstream downstream wanted list =
     let found : List ℕ = tooClose upstream downstream wanted in
     record {
       answer = record {
-        refusal = named Neither 0;
+        refusal = refusalOf Neither 0;
         count = length found;
         smallest = smallest upstream downstream;
         ratio = smallestAt upstream downstream;

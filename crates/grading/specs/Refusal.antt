@@ -21,13 +21,13 @@ pub record RelayCheck : Type 0 where
 abbrev pub checkOf : Relay → Check → RelayCheck
 checkOf relay asked = record { relay = relay; asked = asked }
 
-abbrev pub named : Relay → ℕ → Refusal
-named relay number = record { number = number; relay = relay }
+abbrev pub refusalOf : Relay → ℕ → Refusal
+refusalOf relay number = record { number = number; relay = relay }
 
 -- the first check that is not passed, with the relay that it is of, else `rest`
 abbrev pub firstRefusal : List RelayCheck → Refusal → Refusal
 firstRefusal [] rest = rest
-firstRefusal (c ∷ checks) rest = cond (c .asked .passes) (firstRefusal checks rest) (named (c .relay) (c .asked .number))
+firstRefusal (c ∷ checks) rest = cond (c .asked .passes) (firstRefusal checks rest) (refusalOf (c .relay) (c .asked .number))
 
 -- what one relay is asked: 1 to 7, then 34
 abbrev pub gradedChecks : Settings → List Check
@@ -42,4 +42,4 @@ inTurn (u ∷ upstream) (d ∷ downstream) = checkOf Upstream u ∷ checkOf Down
 -- what two relays are refused with, else a number that names neither
 unfoldable pub pairRefusal : Settings → Settings → ℕ → Refusal
 pairRefusal upstream downstream rest =
-    firstRefusal (inTurn (gradedChecks upstream) (gradedChecks downstream)) (named Neither rest)
+    firstRefusal (inTurn (gradedChecks upstream) (gradedChecks downstream)) (refusalOf Neither rest)

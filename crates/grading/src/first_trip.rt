@@ -1,4 +1,4 @@
-// The first trip of a relay at a ratio of its setting, with no loop.
+// The first trip of a relay at a ratio of its setting, without walking the ticks.
 ghost use mathlib.Core.Path.{_≡_};
 ghost use Prim.Native.Nat.{_≤_};
 ghost use Rattle.grading.specs.FirstTrip.{firstTripAt};

@@ -28,7 +28,7 @@ impl Margin {
     pub const HIGHEST_RATIO: u32 = 2000;
 }
 
-// What upstream's ticks have more than downstream's, or less.
+// Upstream's ticks less downstream's, with the sign.
 pub fn difference(upstream: u64, downstream: u64) -> i64
     requires { ⌜ (upstream ≤ longestWait) × (downstream ≤ longestWait) ⌝ }
     ensures { λ r. ⌜ r ≡ pos upstream -ℤ pos downstream ⌝ }

@@ -1,7 +1,7 @@
 // What a call on two relays is refused with, and the relay that this names.
 ghost use mathlib.Core.Path.{_≡_};
 ghost use Rattle.checks.specs.Checks.{lowest};
-ghost use Rattle.grading.specs.Refusal.{gradedChecks, pairRefusal};
+ghost use Rattle.grading.specs.Refusal.{gradedChecks, refusalOf, pairRefusal};
 ghost use Rattle.grading.specs.device.Lower.{lowerOf};
 use crate::refusals::NOT_GRADED;
 use checks::first_failed;
@@ -19,6 +19,12 @@ pub struct Refusal {
     pub relay: Relay,
 }
 
+fn refusal_of(relay: Relay, number: u32) -> Refusal
+    ensures { λ r. ⌜ r ≡ refusalOf relay number ⌝ }
+{
+    Refusal { number, relay }
+}
+
 // What one relay is refused with, 0 for nothing.
 fn graded_first_failed(settings: Settings) -> u32
     ensures { λ r. ⌜ r ≡ lowest (gradedChecks settings) ⌝ }
@@ -27,38 +33,23 @@ fn graded_first_failed(settings: Settings) -> u32
     settings_first_failed(settings, first_failed(trips, NOT_GRADED, 0))
 }
 
-// Of what two relays are refused with, 0 for nothing, the lower number; upstream has it where both have. Else `rest`.
+// Of what two relays are refused with, 0 for nothing, the lower number, upstream's where both have it; else `rest`.
 pub fn lower_of(upstream: u32, downstream: u32, rest: u32) -> Refusal
     ensures { λ r. ⌜ r ≡ lowerOf upstream downstream rest ⌝ }
 {
     if upstream == 0 {
         if downstream == 0 {
-            return Refusal {
-                number: rest,
-                relay: Relay::Neither,
-            };
+            return refusal_of(Relay::Neither, rest);
         }
-        return Refusal {
-            number: downstream,
-            relay: Relay::Downstream,
-        };
+        return refusal_of(Relay::Downstream, downstream);
     }
     if downstream == 0 {
-        return Refusal {
-            number: upstream,
-            relay: Relay::Upstream,
-        };
+        return refusal_of(Relay::Upstream, upstream);
     }
     if upstream <= downstream {
-        return Refusal {
-            number: upstream,
-            relay: Relay::Upstream,
-        };
+        return refusal_of(Relay::Upstream, upstream);
     }
-    Refusal {
-        number: downstream,
-        relay: Relay::Downstream,
-    }
+    refusal_of(Relay::Downstream, downstream)
 }
 
 // What two relays are refused with, else `rest`, which names neither.

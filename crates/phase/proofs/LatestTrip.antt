@@ -7,7 +7,7 @@ use native.Mathlib.Nat.{le-refl, le-trans, mul-le-mul, mul-le-mul-right, zero-ad
 use native.Mathlib.Omega.{arith}
 use mathlib.Core.Bool.{Bool, true, false, _&&_}
 use mathlib.Core.Path.{_≡_, refl, _∙_}
-use borrow.Author.Tests.{eq-eqb, le-leb, leb-true, leb-false, lt-leb, lt-ltb}
+use borrow.Author.Tests.{eq-eqb, le-leb, leb-true, leb-false, lt-leb}
 use lib.Dec.{leb}
 use Rattle.curve.specs.Ratio.{ratioOf}
 use Rattle.curve.proofs.OrderLaws.{leastGainFrom110, gain-from-110, long-inverse-gain-at-110}
@@ -20,6 +20,7 @@ use Rattle.phase.specs.Tick.{gainAt, started}
 use Rattle.phase.specs.Ticks.{tripAt, always}
 use Rattle.phase.proofs.Accepted.{settings-in-range}
 use Rattle.phase.proofs.KeepsValid.{clear-is-valid}
+use Rattle.phase.proofs.StartLaws.{clear-starts}
 use Rattle.phase.proofs.TripLaws.{curves-from-2}
 use Rattle.phase.proofs.TwoRuns.{more-is-never-slower}
 use Rattle.phase.proofs.Walk.{trip-closed}
@@ -39,8 +40,7 @@ module _ (settings : Settings) (accepted : settingsRefusal settings ≡ 0) (off 
 
   module _ (g : ℕ) (held : 110 ≤ ratioOf g (settings .«start_current»)) where
     starts : started settings clearState g ≡ true
-    unfolding started
-    starts = lt-ltb _ g (omega (arith, ratio-reached g (settings .«start_current») 110 above-0 held, above-0))
+    starts = clear-starts settings g (omega (arith, ratio-reached g (settings .«start_current») 110 above-0 held, above-0))
 
     -- the trip of tick n + 1: so many gains come to the level, and so many ticks to the minimum delay
     trip-held : (n : ℕ) → tripAt settings clearState (always g) (suc n) ≡ leb (tripLevel settings) (min (suc n * gainAt settings g) (tripLevel settings)) && leb (settings .«minimum_delay») (min (suc n) runLimit)

@@ -1,7 +1,7 @@
 -- The drop-out at 95 % (02, E3 and E7): the field is the last tick's start; a larger current starts wherever a smaller one does (E8);
 -- over equal samples a phase stays started, or stays idle; and with m at 100 or less a started one neither gains nor loses.
 -- Assumes nothing.
-use Prim.Native.Nat.{ℕ, zero, suc, _≤_}
+use Prim.Native.Nat.{ℕ, zero, suc, _*_, _≤_, _<_}
 use native.Mathlib.Nat.{le-refl}
 use native.Mathlib.Omega.{arith}
 use mathlib.Core.Bool.{Bool, true, false, false≢true}
@@ -18,7 +18,7 @@ use Rattle.phase.specs.declared.settings.Settings.{Settings}
 use Rattle.phase.specs.declared.state.PhaseState.{PhaseState}
 use Rattle.phase.specs.Operation.{kindOf}
 use Rattle.phase.specs.Settings.{tripLevel}
-use Rattle.phase.specs.State.{valid, validFor}
+use Rattle.phase.specs.State.{clearState, valid, validFor}
 use Rattle.phase.specs.Tick.{gainAt, startedAfter, started, nextBy, nextState, startBy, phaseStart}
 use Rattle.phase.specs.Ticks.{phaseAfter, stateAfter}
 use Rattle.phase.proofs.Accepted.{valid-in-limits, valid-kind}
@@ -35,6 +35,11 @@ field-by (On timing) false settings g state = refl
 pub field-is-start : (settings : Settings) (state : PhaseState) (g : ℕ) → nextState settings state g .started ≡ phaseStart settings state g
 unfolding nextState phaseStart
 field-is-start settings state g = field-by (kindOf (settings .operation)) (started settings state g) settings g state
+
+-- 2. "a phase that wasn't still needs g greater than 100 x s", and the clear state wasn't
+pub clear-starts : (settings : Settings) (g : ℕ) → 100 * settings .«start_current» < g → started settings clearState g ≡ true
+unfolding started
+clear-starts settings g above = lt-ltb _ g above
 
 -- ---- the order of starts
 

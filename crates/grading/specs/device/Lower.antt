@@ -4,10 +4,10 @@ use mathlib.Core.Bool.{cond}
 use lib.Dec.{leb, eqb}
 use Rattle.grading.specs.declared.refusal.Refusal.{Refusal}
 use Rattle.grading.specs.declared.refusal.Relay.the-variants.{Neither, Upstream, Downstream}
-use Rattle.grading.specs.Refusal.{named}
+use Rattle.grading.specs.Refusal.{refusalOf}
 
 -- the lower number, 0 for none, and upstream's where they are one
 abbrev pub lowerOf : ℕ → ℕ → ℕ → Refusal
 lowerOf upstream downstream rest =
-    cond (eqb upstream 0) (cond (eqb downstream 0) (named Neither rest) (named Downstream downstream))
-    (cond (eqb downstream 0) (named Upstream upstream) (cond (leb upstream downstream) (named Upstream upstream) (named Downstream downstream)))
+    cond (eqb upstream 0) (cond (eqb downstream 0) (refusalOf Neither rest) (refusalOf Downstream downstream))
+    (cond (eqb downstream 0) (refusalOf Upstream upstream) (cond (leb upstream downstream) (refusalOf Upstream upstream) (refusalOf Downstream downstream)))
