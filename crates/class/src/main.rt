@@ -1,5 +1,7 @@
-// The class examples, published curve points and pairs of recordings, run through the module and compared with what they should be.
+// The class examples, published curve points, pairs of recordings and the latest trips, run through the module and compared with what they
+// should be.
 mod curves;
+mod latest;
 mod line;
 mod pairs;
 mod phases;
@@ -12,5 +14,6 @@ fn main() {
     curves::power_table();
     phases::phase_examples();
     pairs::pairs_of_recordings();
+    latest::latest_trips();
     timers::timer_examples();
 }

@@ -42,7 +42,7 @@ fn tick_running(g: u32) -> Ticked {
 }
 
 // Whether the phase trip first comes at tick k.
-fn is_at(trip: TripTick, k: u32) -> bool {
+pub(crate) fn is_at(trip: TripTick, k: u32) -> bool {
     match trip {
         TripTick::At(first) => first == k,
         TripTick::None => false,

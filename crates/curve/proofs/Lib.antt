@@ -4,3 +4,4 @@ pub mod TimeLaws
 pub mod RatioLaws
 pub mod GainLaws
 pub mod OrderLaws
+pub mod LeastGainLaws

@@ -10,17 +10,14 @@ use borrow.Author.Tests.{leb-true, le-leb}
 use lib.Dec.{lit≤, leb}
 use Rattle.checks.specs.Range.{inRange}
 use Rattle.checks.proofs.Tests.{both-true, in-range, is-in-range}
-use Rattle.powers.proofs.PowerRule.{X-within, X-never-rises}
+use Rattle.powers.proofs.PowerRule.{X-never-rises}
 use Rattle.curve.specs.declared.constants.Power.{Power}
 use Rattle.curve.specs.declared.constants.Power.the-variants.{Fiftieth, First, Second}
-use Rattle.curve.specs.declared.constants.Constants.{Constants}
 use Rattle.curve.specs.Constants.{constantsOf}
 use Rattle.curve.specs.Gain.{gainOf, lossOf}
-use Rattle.curve.specs.Rounding.{roundedUp}
 use Rattle.curve.specs.Time.{hasOperateTime, hasResetTime, inversePart, operateTime, resetPart, resetTime}
-use Rattle.curve.proofs.GainLaws.{gain-by-time}
-use Rattle.curve.proofs.RoundingLaws.{rounded-up-within, rounded-up-order}
-use Rattle.curve.proofs.TimeLaws.{row-passes, square-above, square-below, operate-time-by-parts, operate-time-at-least, reset-time-at-least}
+use Rattle.curve.proofs.RoundingLaws.{rounded-up-order}
+use Rattle.curve.proofs.TimeLaws.{square-above, square-below, operate-time-at-least, reset-time-at-least}
 
 -- ---- the times
 
@@ -80,47 +77,3 @@ loss-never-rises op m n h =
     let high = leb-true n 99 ratio in
     let given : hasResetTime op m ≡ true = rw (ansi, le-leb m 99 (le-trans h high)) refl in
     (given, le-trans (lit≤ tt) (reset-time-at-least op m given), reset-time-never-falls op m n h high))
-
--- ---- the smallest gain from m = 110 on
-
--- what each unit of k adds to the time at 110, at most
-abbrev eachK : Power → ℕ
-eachK Fiftieth = 60000
-eachK First = 1000
-eachK Second = 477
-
-part-at-110 : (a : Power) (k : ℕ) → inversePart a k 110 ≤ eachK a * k
-part-at-110 Fiftieth k =
-    rounded-up-within _ _ _ (omega arith)
-    (omega (arith, mul-le-mul-left k (X-within 110 600000000 (omega arith) (lit≤ tt))))
-part-at-110 First k = rounded-up-within _ _ _ (omega arith) (omega arith)
-part-at-110 Second k = rounded-up-within _ _ _ (omega arith) (omega arith)
-
--- the 1,200 seconds that IEC LongInv takes there
-abbrev longestAt110 : ℕ
-longestAt110 = 1200000000
-
-abbrev quickEnough : Constants → Bool
-quickEnough row = leb (row .c + eachK (row .a) * row .k) longestAt110
-
-time-at-110 : (op : ℕ) → 2 ≤ op → op ≤ 12 → operateTime op 110 ≤ longestAt110
-time-at-110 op low high =
-    let row = constantsOf op in
-    let quick : quickEnough row ≡ true = row-passes quickEnough 2 11 refl op low (omega arith) in
-    rw (operate-time-by-parts op 110 low high (omega arith) (omega arith))
-    (le-trans (add-le-add (le-refl (row .c)) (part-at-110 (row .a) (row .k))) (leb-true _ longestAt110 quick))
-
--- and its gain
-abbrev pub leastGainFrom110 : ℕ
-leastGainFrom110 = 83333
-
-pub gain-from-110 : (op m : ℕ) → 2 ≤ op → op ≤ 12 → 110 ≤ m → m ≤ 2000 → leastGainFrom110 ≤ gainOf op m
-gain-from-110 op m low high least most =
-    let given : hasOperateTime op 110 ≡ true = rw (is-in-range 2 12 op low high) refl in
-    let at-110 : leastGainFrom110 ≤ 10 ^ 14 / operateTime op 110 =
-    le-div-iff-mul-le (le-trans (lit≤ tt) (operate-time-at-least op 110 given)) .1 (omega (arith, time-at-110 op low high)) in
-    le-trans (rw (gain-by-time op 110) at at-110) (gain-never-falls op 110 m least most)
-
-pub long-inverse-gain-at-110 : gainOf 5 110 ≡ leastGainFrom110
-unfolding gainOf operateTime constantsOf roundedUp
-long-inverse-gain-at-110 = refl

@@ -8,11 +8,10 @@ use Rattle.phase.specs.State.{clearState}
 abbrev pub sampleAt : Settings → ℕ → ℕ
 sampleAt settings ratio = ratio * settings .«start_current»
 
--- so many ticks fill the highest trip level even at a gain of 1: a curve that has not tripped by then never does, `never-trips` of
--- `proofs/`
+-- so many ticks fill the highest trip level even at a gain of 1
 abbrev pub longestWait : ℕ
 longestWait = 1500 * 10 ^ 9
 
--- "the first trip tick", of the walked ticks, "from clear"; 0 where there is none
+-- "the first trip tick", of the walked ticks, "from clear"; at a ratio from 101 on there is one, `first-trip-is` of `proofs/`
 unfoldable pub firstTripAt : Settings → ℕ → ℕ
 firstTripAt settings ratio = firstTrip settings (sampleAt settings ratio) longestWait clearState

@@ -7,16 +7,13 @@ ghost use Rattle.grading.specs.device.Ready.{Trips};
 use phase::Settings;
 use phase::settings::trip_level;
 
-// From clear, with an unchanged sample: the larger of the minimum delay and the level divided by the gain, rounded up. 0 stands for
-// never, which a gain of 0 would give.
+// From clear, with an unchanged sample: the larger of the minimum delay and the level divided by the gain, rounded up. From 101 on there
+// is always a gain to divide by.
 pub(crate) fn first_trip(settings: Settings, ratio: u32) -> u64
     requires { ⌜ (Trips settings) × (lowestRatio ≤ ratio) × (ratio ≤ highestRatio) ⌝ }
     ensures { λ r. ⌜ r ≡ firstTripAt settings ratio ⌝ }
 {
     let gain = curve::gain_of(settings.operation, ratio);
-    if gain == 0 {
-        return 0;
-    }
     let turns = (trip_level(settings) + (gain - 1)) / gain;
     let least = settings.minimum_delay as u64;
     if turns < least {

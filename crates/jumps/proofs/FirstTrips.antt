@@ -1,14 +1,16 @@
 -- The first of n equal ticks with the phase trip on: in closed form, and what it means.
 -- Assumes nothing.
-use Prim.Native.Nat.{ℕ, zero, suc, _+_, _-_, _*_, _≤_, _<_, min, max}
-use native.Mathlib.Nat.{suc-mul, div-lt-iff-lt-mul, div-zero, mul-zero}
+use Prim.Native.Nat.{ℕ, suc, _+_, _-_, _*_, _≤_, _<_, min, max}
+use native.Mathlib.Nat.{suc-mul, div-lt-iff-lt-mul, mul-zero}
 use native.Mathlib.Omega.{arith}
 use mathlib.Core.Bool.{Bool, true, false, cond, _&&_}
 use mathlib.Core.Path.{_≡_, refl, _∙_}
-use borrow.Author.Tests.{leb-true, le-leb, lt-leb, ltb-true, ltb-false}
-use lib.Dec.{leb, ltb, eqb, eqb·suc-zero}
+use borrow.Author.Tests.{leb-true, leb-false, le-leb, lt-leb, ltb-true, ltb-false}
+use lib.Dec.{leb, ltb, eqb}
 use Rattle.checks.proofs.Cases.{same-test}
 use Rattle.checks.proofs.Tests.{both-true, leb-iff}
+use Rattle.curve.specs.Ratio.{ratioOf}
+use Rattle.curve.proofs.GainLaws.{gain-zero-to-100}
 use Rattle.phase.specs.declared.operation.Kind.{Kind}
 use Rattle.phase.specs.declared.operation.Kind.the-variants.{Off, On}
 use Rattle.phase.specs.declared.operation.Timing.{Timing}
@@ -24,7 +26,8 @@ use Rattle.phase.specs.device.Ranges.{InRange}
 use Rattle.phase.specs.State.{runLimit}
 use Rattle.phase.specs.Tick.{gainAt, started, due, tripBy}
 use Rattle.phase.specs.Ticks.{tripAt, always}
-use Rattle.jumps.proofs.FirstOfLaws.{FirstAt, Never, none-means, first-means, first-same, first-none, first-from}
+use Rattle.jumps.proofs.FirstOfLaws.{FirstAt, first-means, first-same, first-none, first-from}
+use Rattle.phase.proofs.PaceLaws.{gains-above-100}
 use Rattle.phase.proofs.Walk.{trip-closed}
 
 -- ---- tests
@@ -49,10 +52,6 @@ turns-least level sum gain k pos h =
     let b : turns level sum gain < suc k = div-lt-iff-lt-mul pos .1 a in
     omega arith
 
--- a quotient by 0 is 0
-pub no-turns : (level sum gain : ℕ) → gain ≡ 0 → turns level sum gain ≡ 0
-no-turns level sum gain e = rw e (div-zero (level - sum + (0 - 1)))
-
 -- the two tests of a curve's trip as one, at a gain above 0
 full-test : (level sum gain run delay k : ℕ) → delay ≤ runLimit → 0 < gain → leb level (min (sum + suc k * gain) level) && leb delay (min (run + suc k) runLimit) ≡ leb (max (waitFor delay run) (turns level sum gain)) (suc k)
 full-test level sum gain run delay k small pos =
@@ -65,10 +64,10 @@ full-test level sum gain run delay k small pos =
 flat-never : (level sum run delay k : ℕ) → sum < level → leb level (min (sum + suc k * 0) level) && leb delay (min (run + suc k) runLimit) ≡ false
 flat-never level sum run delay k h = rw (lt-leb level (min (sum + suc k * 0) level) (omega (arith, mul-zero (suc k))))
 
-flat-test : (level sum run delay k : ℕ) → delay ≤ runLimit → level ≤ sum → leb level (min (sum + suc k * 0) level) && leb delay (min (run + suc k) runLimit) ≡ leb (max (waitFor delay run) (turns level sum 0)) (suc k)
+flat-test : (level sum run delay k : ℕ) → delay ≤ runLimit → level ≤ sum → leb level (min (sum + suc k * 0) level) && leb delay (min (run + suc k) runLimit) ≡ leb (waitFor delay run) (suc k)
 flat-test level sum run delay k small full =
-    both-iff level (min (sum + suc k * 0) level) delay (min (run + suc k) runLimit) (max (waitFor delay run) (turns level sum 0)) (suc k)
-    (λ a b. omega (arith, div-zero (level - sum + (0 - 1))))
+    both-iff level (min (sum + suc k * 0) level) delay (min (run + suc k) runLimit) (waitFor delay run) (suc k)
+    (λ a b. omega arith)
     (λ a. omega (arith, mul-zero (suc k)))
     (λ a. omega arith)
 
@@ -79,33 +78,37 @@ delay-first delay run n small =
     first-from (λ (k : ℕ). leb delay (min (run + k) runLimit)) (waitFor delay run) n (omega arith)
     (λ k. leb-iff delay (min (run + suc k) runLimit) (waitFor delay run) (suc k) (λ a. omega arith) (λ a. omega arith))
 
-full-first : (level sum gain run delay n : ℕ) → delay ≤ runLimit → firstOf (λ (k : ℕ). leb level (min (sum + k * gain) level) && leb delay (min (run + k) runLimit)) n ≡ firstFull n (waitFor delay run) level sum gain
-full-first level sum zero run delay n small = go (ltb sum level) refl
+full-first : (level sum ratio gain run delay n : ℕ) → delay ≤ runLimit → (ratio ≤ 100 → gain ≡ 0) → (100 < ratio → 0 < gain) → firstOf (λ (k : ℕ). leb level (min (sum + k * gain) level) && leb delay (min (run + k) runLimit)) n ≡ firstFull n (waitFor delay run) level sum ratio gain
+full-first level sum ratio gain run delay n small none some = go (leb ratio 100) refl
   where
-    go : (b : Bool) → ltb sum level ≡ b → firstOf (λ (k : ℕ). leb level (min (sum + k * 0) level) && leb delay (min (run + k) runLimit)) n ≡ cond b 0 (oneOf n (max (waitFor delay run) (turns level sum 0)))
-    go true q = first-none _ n (λ k. flat-never level sum run delay k (ltb-true sum level q))
-    go false q = first-from _ _ n (omega arith) (λ k. flat-test level sum run delay k small (ltb-false sum level q))
-full-first level sum (suc gain) run delay n small =
-    rw (eqb·suc-zero gain)
-    (first-from _ _ n (omega arith) (λ k. full-test level sum (suc gain) run delay k small (omega arith)))
+    standing : (b : Bool) → ltb sum level ≡ b → firstOf (λ (k : ℕ). leb level (min (sum + k * 0) level) && leb delay (min (run + k) runLimit)) n ≡ cond b 0 (oneOf n (waitFor delay run))
+    standing true q = first-none _ n (λ k. flat-never level sum run delay k (ltb-true sum level q))
+    standing false q = first-from _ _ n (omega arith) (λ k. flat-test level sum run delay k small (ltb-false sum level q))
 
-due-first : (timing : Timing) (settings : Settings) (g n : ℕ) (state : PhaseState) → InRange settings → firstOf (λ (k : ℕ). due timing settings (advanceBy (On timing) true settings g k state)) n ≡ firstDue timing settings g n state
-due-first Definite settings g n state range =
+    go : (b : Bool) → leb ratio 100 ≡ b → firstOf (λ (k : ℕ). leb level (min (sum + k * gain) level) && leb delay (min (run + k) runLimit)) n ≡ cond b (cond (ltb sum level) 0 (oneOf n (waitFor delay run))) (oneOf n (max (waitFor delay run) (turns level sum gain)))
+    go true q = rw (none (leb-true ratio 100 q)) (standing (ltb sum level) refl)
+    go false q =
+        first-from _ _ n (omega arith) (λ k. full-test level sum gain run delay k small (some (leb-false ratio 100 q)))
+
+due-first : (timing : Timing) (settings : Settings) (g n : ℕ) (state : PhaseState) → InRange settings → kindOf (settings .operation) ≡ On timing → firstOf (λ (k : ℕ). due timing settings (advanceBy (On timing) true settings g k state)) n ≡ firstDue timing settings g n state
+due-first Definite settings g n state range kind =
     delay-first (settings .«definite_delay») (state .run) n (range .definite-high)
-due-first (Curve rule) settings g n state range =
-    full-first (tripLevel settings) (state .sum) (gainAt settings g) (state .run) (settings .«minimum_delay») n (range .minimum-high)
+due-first (Curve rule) settings g n state range kind =
+    full-first (tripLevel settings) (state .sum) (ratioOf g (settings .«start_current»)) (gainAt settings g) (state .run) (settings .«minimum_delay») n (range .minimum-high)
+    (gain-zero-to-100 (settings .operation) _)
+    (gains-above-100 settings rule g range kind)
 
-trip-first : (kind : Kind) (b allowed : Bool) (settings : Settings) (g n : ℕ) (state : PhaseState) → InRange settings → eqb (settings .«start_only») 0 ≡ allowed → firstOf (λ (k : ℕ). tripBy kind b settings (advanceBy kind b settings g k state)) n ≡ firstTripBy kind b settings g n state
-trip-first Off b allowed settings g n state range e = first-none _ n (λ k. refl)
-trip-first (On timing) false allowed settings g n state range e = first-none _ n (λ k. refl)
-trip-first (On timing) true false settings g n state range e = rw e (first-none _ n (λ k. refl))
-trip-first (On timing) true true settings g n state range e = rw e (due-first timing settings g n state range)
+trip-first : (kind : Kind) (b allowed : Bool) (settings : Settings) (g n : ℕ) (state : PhaseState) → InRange settings → kindOf (settings .operation) ≡ kind → eqb (settings .«start_only») 0 ≡ allowed → firstOf (λ (k : ℕ). tripBy kind b settings (advanceBy kind b settings g k state)) n ≡ firstTripBy kind b settings g n state
+trip-first Off b allowed settings g n state range own e = first-none _ n (λ k. refl)
+trip-first (On timing) false allowed settings g n state range own e = first-none _ n (λ k. refl)
+trip-first (On timing) true false settings g n state range own e = rw e (first-none _ n (λ k. refl))
+trip-first (On timing) true true settings g n state range own e = rw e (due-first timing settings g n state range own)
 
 pub first-trip-closed : (settings : Settings) (g n : ℕ) (state : PhaseState) → InRange settings → firstTrip settings g n state ≡ firstTripBy (kindOf (settings .operation)) (started settings state g) settings g n state
 unfolding firstTrip
 first-trip-closed settings g n state range =
     first-same _ _ n (λ k. trip-closed settings g k state)
-    ∙ trip-first (kindOf (settings .operation)) (started settings state g) (eqb (settings .«start_only») 0) settings g n state range refl
+    ∙ trip-first (kindOf (settings .operation)) (started settings state g) (eqb (settings .«start_only») 0) settings g n state range refl refl
 
 -- ---- what it means, for the crates above
 
@@ -113,7 +116,3 @@ module _ (settings : Settings) (g n : ℕ) (state : PhaseState) where
   pub trips-first-at : (t : ℕ) → 0 < t → firstTrip settings g n state ≡ t → FirstAt (tripAt settings state (always g)) n t
   unfolding firstTrip
   trips-first-at t low e = first-means (tripAt settings state (always g)) n t low e
-
-  pub trips-never : firstTrip settings g n state ≡ 0 → Never (tripAt settings state (always g)) n
-  unfolding firstTrip
-  trips-never e = none-means (tripAt settings state (always g)) n e

@@ -1,8 +1,9 @@
 // The first of n equal ticks with the phase trip on, with no loop; 0 stands for none.
 ghost use mathlib.Core.Path.{_≡_};
-ghost use Prim.Native.Nat.{_-_, _≤_, max};
+ghost use Prim.Native.Nat.{_-_, _≤_, _<_, max};
 ghost use Rattle.jumps.specs.device.FirstTrip.{oneOf, waitFor, firstFull, firstDue, firstTripBy};
 ghost use Rattle.phase.specs.device.Pace.{Ready};
+ghost use Rattle.phase.specs.Operation.{kindOf};
 ghost use Rattle.phase.specs.Tick.{started};
 use phase::PhaseState;
 use phase::Settings;
@@ -39,12 +40,13 @@ fn wait_for(delay: u32, run: u32) -> u64
     larger(1, lacking(delay as u64, run as u64))
 }
 
-// The first tick at which a sum that grows by the gain is full, once the wait is over.
-fn first_full(n: u32, wait: u64, level: u64, sum: u64, gain: u64) -> u32
-    requires { ⌜ (level ≤ 1500000000000) × (gain ≤ 1000000000000) ⌝ }
-    ensures { λ r. ⌜ r ≡ firstFull n wait level sum gain ⌝ }
+// The first tick at which a sum is full, once the wait is over. To the ratio 100 it stands still; from 101 on it grows by the gain, which
+// is never 0 there.
+fn first_full(n: u32, wait: u64, level: u64, sum: u64, ratio: u32, gain: u64) -> u32
+    requires { ⌜ (level ≤ 1500000000000) × (gain ≤ 1000000000000) × (100 < ratio → 0 < gain) ⌝ }
+    ensures { λ r. ⌜ r ≡ firstFull n wait level sum ratio gain ⌝ }
 {
-    if gain == 0 {
+    if ratio <= 100 {
         if sum < level {
             return 0;
         }
@@ -55,20 +57,21 @@ fn first_full(n: u32, wait: u64, level: u64, sum: u64, gain: u64) -> u32
 }
 
 fn first_due(timing: Timing, settings: Settings, pace: Pace, n: u32, state: PhaseState) -> u32
-    requires { ⌜ Ready settings pace state ⌝ }
+    requires { ⌜ Ready settings pace state × (kindOf (settings .operation) ≡ Kind.On timing) ⌝ }
     ensures { λ r. ⌜ r ≡ firstDue timing settings (pace .sample) n state ⌝ }
 {
     match timing {
         Timing::Definite => one_of(n, wait_for(settings.definite_delay, state.run)),
         Timing::Curve(_) => {
             let wait = wait_for(settings.minimum_delay, state.run);
-            first_full(n, wait, trip_level(settings), state.sum, pace.gain)
+            let ratio = curve::ratio_of(pace.sample, settings.start_current);
+            first_full(n, wait, trip_level(settings), state.sum, ratio, pace.gain)
         }
     }
 }
 
 fn first_trip_on(timing: Timing, settings: Settings, pace: Pace, n: u32, state: PhaseState) -> u32
-    requires { ⌜ Ready settings pace state ⌝ }
+    requires { ⌜ Ready settings pace state × (kindOf (settings .operation) ≡ Kind.On timing) ⌝ }
     ensures { λ r.
         ⌜ r ≡ firstTripBy (Kind.On timing) (started settings state (pace .sample)) settings (pace .sample) n state ⌝ }
 {
@@ -87,7 +90,7 @@ pub(crate) fn first_trip(
     n: u32,
     state: PhaseState,
 ) -> u32
-    requires { ⌜ Ready settings pace state ⌝ }
+    requires { ⌜ Ready settings pace state × (kindOf (settings .operation) ≡ kind) ⌝ }
     ensures { λ r. ⌜ r ≡ firstTripBy kind (started settings state (pace .sample)) settings (pace .sample) n state ⌝ }
 {
     match kind {

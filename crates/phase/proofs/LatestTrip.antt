@@ -1,91 +1,144 @@
--- The latest trip (02, E8): on any curve, with start only off, a phase held at a ratio of 110 or more from the clear state has tripped by
--- tick 18,000,073, and IEC LongInv at 110 with the highest time multiplier first trips at that tick. These are walked ticks, and more of
--- them than a jump has.
+-- The latest trip: on any curve, with start only off, a phase held at a ratio of 101 or more trips (02, E10), and at 110 or more ten times
+-- as soon (E8). These are walked ticks, and more of them than a jump has.
 -- Assumes nothing.
-use Prim.Native.Nat.{ℕ, zero, suc, _*_, _^_, _≤_, _<_, min}
-use native.Mathlib.Nat.{le-refl, le-trans, mul-le-mul, mul-le-mul-right, zero-add}
+use Prim.Native.Nat.{ℕ, zero, suc, _+_, _-_, _*_, _^_, _≤_, _<_, min}
+use native.Mathlib.Nat.{le-refl, le-trans, lt-of-not-le, mul-le-mul-left, mul-le-mul-right, zero-add}
 use native.Mathlib.Omega.{arith}
 use mathlib.Core.Bool.{Bool, true, false, _&&_}
 use mathlib.Core.Path.{_≡_, refl, _∙_}
 use borrow.Author.Tests.{eq-eqb, le-leb, leb-true, leb-false, lt-leb}
-use lib.Dec.{leb}
+use lib.Dec.{lit≤, lit<, leb}
+use Rattle.checks.proofs.Tests.{leb-iff}
 use Rattle.curve.specs.Ratio.{ratioOf}
-use Rattle.curve.proofs.OrderLaws.{leastGainFrom110, gain-from-110, long-inverse-gain-at-110}
+use Rattle.curve.proofs.LeastGainLaws.{LeastFrom, leastGain, leastGainFrom110, least-gain, least-gain-from-110}
 use Rattle.curve.proofs.RatioLaws.{ratio-at-most, ratio-between, ratio-reached}
 use Rattle.phase.specs.declared.settings.Settings.{Settings}
+use Rattle.phase.specs.declared.state.PhaseState.{PhaseState}
 use Rattle.phase.specs.device.Ranges.{InRange}
 use Rattle.phase.specs.Settings.{settingsRefusal, tripLevel}
-use Rattle.phase.specs.State.{runLimit, clearState}
+use Rattle.phase.specs.State.{runLimit, clearState, valid}
 use Rattle.phase.specs.Tick.{gainAt, started}
 use Rattle.phase.specs.Ticks.{tripAt, always}
 use Rattle.phase.proofs.Accepted.{settings-in-range}
-use Rattle.phase.proofs.KeepsValid.{clear-is-valid}
-use Rattle.phase.proofs.StartLaws.{clear-starts}
+use Rattle.phase.proofs.StartLaws.{starts-above}
 use Rattle.phase.proofs.TripLaws.{curves-from-2}
 use Rattle.phase.proofs.TwoRuns.{more-is-never-slower}
 use Rattle.phase.proofs.Walk.{trip-closed}
 
-abbrev pub latestTick : ℕ
-latestTick = 18000073
+-- ---- the statement
 
--- "with start only off and any curve operation"
-module _ (settings : Settings) (accepted : settingsRefusal settings ≡ 0) (off : settings .«start_only» ≡ 0) (curve : 2 ≤ settings .operation) where
-  range : InRange settings
-  range = settings-in-range settings accepted
+-- accepted settings "with start only off and any curve operation"
+pub record CurveTrips (settings : Settings) : Type 0 where
+  pub accepted : settingsRefusal settings ≡ 0
+  pub off : settings .«start_only» ≡ 0
+  pub curve : 2 ≤ settings .operation
 
-  above-0 : 0 < settings .«start_current»
-  above-0 = le-trans (omega arith) (range .start-low)
+-- at a ratio of `low` or more at each of n ticks
+abbrev pub HeldFrom : ℕ → Settings → (ℕ → ℕ) → ℕ → Type 0
+HeldFrom low settings sample n = (k : ℕ) → k < n → low ≤ ratioOf (sample k) (settings .«start_current»)
 
-  -- ---- one unchanged sample
+-- when a phase that is held at `low` or more trips, where `least` is the least gain there
+pub record LatestTrip (low least tick : ℕ) : Type 0 where
+  -- from any valid state: at every tick by which as many least gains fill the level
+  pub trips : (settings : Settings) → CurveTrips settings → (state : PhaseState) → valid settings state ≡ true → (sample : ℕ → ℕ) (n : ℕ) → HeldFrom low settings sample n → tripLevel settings ≤ n * least → tripAt settings state sample n ≡ true
+  -- whatever the time multiplier: by `tick`, and from there on
+  pub by-tick : (settings : Settings) → CurveTrips settings → (state : PhaseState) → valid settings state ≡ true → (sample : ℕ → ℕ) (n : ℕ) → HeldFrom low settings sample n → tick ≤ n → tripAt settings state sample n ≡ true
+  -- IEC LongInv at `low` from clear: at those ticks alone
+  pub exactly : (settings : Settings) → CurveTrips settings → settings .operation ≡ 5 → (g : ℕ) → ratioOf g (settings .«start_current») ≡ low → (n : ℕ) → tripAt settings clearState (always g) n ≡ leb (tripLevel settings) (n * least)
+  -- so at the highest multiplier first at `tick`
+  pub exactly-by-tick : (settings : Settings) → CurveTrips settings → settings .operation ≡ 5 → settings .«time_multiplier» ≡ 1500 → (g : ℕ) → ratioOf g (settings .«start_current») ≡ low → (n : ℕ) → tripAt settings clearState (always g) n ≡ leb tick n
 
-  module _ (g : ℕ) (held : 110 ≤ ratioOf g (settings .«start_current»)) where
-    starts : started settings clearState g ≡ true
-    starts = clear-starts settings g (omega (arith, ratio-reached g (settings .«start_current») 110 above-0 held, above-0))
+-- the first tick by which so many gains fill the level is no later than any other
+no-sooner : (level gain tick n : ℕ) → (tick - 1) * gain < level → level ≤ n * gain → tick ≤ n
+no-sooner level gain tick n short full =
+    let before : tick < suc n =
+    lt-of-not-le (λ h. absurd (let fewer : n * gain ≤ (tick - 1) * gain = mul-le-mul-right gain (omega arith) in omega arith)) in
+    omega arith
 
-    -- the trip of tick n + 1: so many gains come to the level, and so many ticks to the minimum delay
-    trip-held : (n : ℕ) → tripAt settings clearState (always g) (suc n) ≡ leb (tripLevel settings) (min (suc n * gainAt settings g) (tripLevel settings)) && leb (settings .«minimum_delay») (min (suc n) runLimit)
-    trip-held n =
-        let (rule, kind) = curves-from-2 (settings .operation) curve (range .operation) in
-        trip-closed settings g n clearState ∙ rw (kind, starts, eq-eqb _ 0 off, zero-add (suc n), zero-add (suc n * gainAt settings g))
+-- of a gain that does not fill the lowest level within the longest minimum delay
+module _ (low least : ℕ) (from-101 : 101 ≤ low) (to-2000 : low ≤ 2000) (gains : LeastFrom low least) (slow : 60000 * least < 5 * 10 ^ 9) where
+  module _ (settings : Settings) (on : CurveTrips settings) where
+    range : InRange settings
+    range = settings-in-range settings (on .accepted)
 
-    -- it is on at the latest tick, and from there on
-    pub held-trips : (n : ℕ) → latestTick ≤ n → tripAt settings clearState (always g) n ≡ true
-    held-trips zero late = absurd (omega arith)
-    held-trips (suc n) late =
-        let level : tripLevel settings ≤ 1500 * 10 ^ 9 = mul-le-mul-right (10 ^ 9) (range .multiplier-high) in
-        let gains : latestTick * leastGainFrom110 ≤ suc n * gainAt settings g =
-        mul-le-mul late (gain-from-110 (settings .operation) _ curve (range .operation) held (ratio-at-most g (settings .«start_current»))) in
-        trip-held n
-        ∙ rw (le-leb (tripLevel settings) (min (suc n * gainAt settings g) (tripLevel settings)) (omega arith), le-leb (settings .«minimum_delay») (min (suc n) runLimit) (omega (arith, range .minimum-high)))
+    above-0 : 0 < settings .«start_current»
+    above-0 = le-trans (omega arith) (range .start-low)
 
-    -- and off before it, at the least gain and the highest level
-    not-before : gainAt settings g ≡ leastGainFrom110 → settings .«time_multiplier» ≡ 1500 → (n : ℕ) → n < latestTick → tripAt settings clearState (always g) n ≡ false
-    not-before gain multiplier zero early = refl
-    not-before gain multiplier (suc n) early =
-        let short : suc n * gainAt settings g < tripLevel settings = rw (gain, multiplier) (omega arith) in
-        trip-held n ∙ rw (lt-leb (tripLevel settings) (min (suc n * gainAt settings g) (tripLevel settings)) (omega arith))
+    level-small : tripLevel settings ≤ 1500 * 10 ^ 9
+    level-small = mul-le-mul-right (10 ^ 9) (range .multiplier-high)
 
-  -- ---- any samples
+    waited : (n : ℕ) → tripLevel settings ≤ n * least → 60000 < n
+    waited n late =
+        lt-of-not-le (λ h. absurd (omega (arith, slow, mul-le-mul-right least h, range .multiplier-low)))
 
-  -- at a ratio of 110 or more at every tick they are never slower than the one whose ratio is 110
-  pub latest-trip : (sample : ℕ → ℕ) (n : ℕ) → ((k : ℕ) → k < n → 110 ≤ ratioOf (sample k) (settings .«start_current»)) → latestTick ≤ n → tripAt settings clearState sample n ≡ true
-  latest-trip sample n held late =
-      let s = settings .«start_current» in
-      let exactly : ratioOf (110 * s) s ≡ 110 = ratio-between (110 * s) s 110 (omega arith) (le-refl (110 * s)) (omega (arith, above-0)) in
-      more-is-never-slower settings accepted clearState (clear-is-valid settings) (always (110 * s)) sample n (λ k h. ratio-reached (sample k) s 110 above-0 (held k h))
-      .trip n (le-refl n) (held-trips (110 * s) (rw exactly (le-refl 110)) n late)
+    -- ---- one unchanged sample
 
--- "this is the exact tick for IEC LongInv at m 110 and M 1500": the trip is on exactly from it on
-pub latest-exactly : (settings : Settings) → settingsRefusal settings ≡ 0 → settings .«start_only» ≡ 0 → settings .operation ≡ 5 → settings .«time_multiplier» ≡ 1500 → (g : ℕ) → ratioOf g (settings .«start_current») ≡ 110 → (n : ℕ) → tripAt settings clearState (always g) n ≡ leb latestTick n
-latest-exactly settings accepted off op multiplier g ratio n = go (leb latestTick n) refl
-  where
-    curve : 2 ≤ settings .operation
-    curve = rw op (omega arith)
+    module _ (state : PhaseState) (g : ℕ) (held : low ≤ ratioOf g (settings .«start_current»)) where
+      starts : started settings state g ≡ true
+      starts =
+          starts-above settings state g
+          (omega (arith, ratio-reached g (settings .«start_current») 101 above-0 (le-trans from-101 held), above-0))
 
-    held : 110 ≤ ratioOf g (settings .«start_current»)
-    held = rw ratio (le-refl 110)
+      -- the trip of tick n + 1: so many gains come to the level, and so many ticks to the minimum delay
+      trip-held : (n : ℕ) → tripAt settings state (always g) (suc n) ≡ leb (tripLevel settings) (min (state .sum + suc n * gainAt settings g) (tripLevel settings)) && leb (settings .«minimum_delay») (min (state .run + suc n) runLimit)
+      trip-held n =
+          let (rule, kind) = curves-from-2 (settings .operation) (on .curve) (range .operation) in
+          trip-closed settings g n state ∙ rw (kind, starts, eq-eqb _ 0 (on .off))
 
-    go : (b : Bool) → leb latestTick n ≡ b → tripAt settings clearState (always g) n ≡ b
-    go true e = held-trips settings accepted off curve g held n (leb-true latestTick n e)
-    go false e =
-        not-before settings accepted off curve g held (rw (op, ratio) long-inverse-gain-at-110) multiplier n (leb-false latestTick n e)
+      held-trips : (n : ℕ) → tripLevel settings ≤ n * least → tripAt settings state (always g) n ≡ true
+      held-trips zero late = absurd (omega (arith, waited zero late))
+      held-trips (suc n) late =
+          let gained : suc n * least ≤ suc n * gainAt settings g =
+          mul-le-mul-left (suc n) (gains .every (settings .operation) _ (on .curve) (range .operation) held (ratio-at-most g (settings .«start_current»))) in
+          trip-held n
+          ∙ rw (le-leb (tripLevel settings) (min (state .sum + suc n * gainAt settings g) (tripLevel settings)) (omega arith), le-leb (settings .«minimum_delay») (min (state .run + suc n) runLimit) (omega (arith, waited (suc n) late, range .minimum-high)))
+
+      -- and at no other tick, at just the least gain and from an empty sum
+      not-before : gainAt settings g ≡ least → state .sum ≡ 0 → (n : ℕ) → n * least < tripLevel settings → tripAt settings state (always g) n ≡ false
+      not-before gain empty zero early = refl
+      not-before gain empty (suc n) early =
+          let short : state .sum + suc n * gainAt settings g < tripLevel settings = rw (gain, empty, zero-add) early in
+          trip-held n ∙ rw (lt-leb (tripLevel settings) (min (state .sum + suc n * gainAt settings g) (tripLevel settings)) (omega arith))
+
+    just-then : settings .operation ≡ 5 → (g : ℕ) → ratioOf g (settings .«start_current») ≡ low → (n : ℕ) → tripAt settings clearState (always g) n ≡ leb (tripLevel settings) (n * least)
+    just-then op g at-low n = go (leb (tripLevel settings) (n * least)) refl
+      where
+        held : low ≤ ratioOf g (settings .«start_current»)
+        held = rw at-low (le-refl low)
+
+        go : (b : Bool) → leb (tripLevel settings) (n * least) ≡ b → tripAt settings clearState (always g) n ≡ b
+        go true e = held-trips clearState g held n (leb-true (tripLevel settings) (n * least) e)
+        go false e =
+            not-before clearState g held (rw (op, at-low) (gains .exactly)) refl n (leb-false (tripLevel settings) (n * least) e)
+
+    -- ---- any samples
+
+    -- they are never slower than the one whose ratio is just `low`
+    samples-trip : (state : PhaseState) → valid settings state ≡ true → (sample : ℕ → ℕ) (n : ℕ) → HeldFrom low settings sample n → tripLevel settings ≤ n * least → tripAt settings state sample n ≡ true
+    samples-trip state v sample n held late =
+        let s = settings .«start_current» in
+        let at-low : ratioOf (low * s) s ≡ low = ratio-between (low * s) s low to-2000 (le-refl (low * s)) (omega (arith, above-0)) in
+        more-is-never-slower settings (on .accepted) state v (always (low * s)) sample n (λ k h. ratio-reached (sample k) s low above-0 (held k h))
+        .trip n (le-refl n) (held-trips state (low * s) (rw at-low (le-refl low)) n late)
+
+  -- ---- by the tick at which so many least gains fill the highest level
+
+  latest-from : (tick : ℕ) → 1500 * 10 ^ 9 ≤ tick * least → (tick - 1) * least < 1500 * 10 ^ 9 → LatestTrip low least tick
+  latest-from tick fills short =
+      let late : (n : ℕ) → tick ≤ n → 1500 * 10 ^ 9 ≤ n * least = λ n h. le-trans fills (mul-le-mul-right least h) in
+      record {
+        trips = samples-trip;
+        by-tick = λ settings on state v sample n held h. samples-trip settings on state v sample n held (le-trans (level-small settings on) (late n h));
+        exactly = just-then;
+        exactly-by-tick = λ settings on op highest g at-low n. just-then settings on op g at-low n ∙ rw highest (leb-iff _ (n * least) tick n (no-sooner _ least tick n short) (late n));
+      }
+
+-- "the trip that never comes" (E10) comes by tick 180,007,201
+pub latest-trip : LatestTrip 101 leastGain 180007201
+latest-trip = latest-from 101 leastGain (omega arith) (omega arith) least-gain (lit< tt) 180007201 (lit≤ tt) (lit< tt)
+
+-- "a phase held at m of 110 or more from clear has tripped by tick 18,000,073, and this is the exact tick for IEC LongInv at m 110 and M
+-- 1500" (E8)
+pub latest-trip-from-110 : LatestTrip 110 leastGainFrom110 18000073
+latest-trip-from-110 =
+    latest-from 110 leastGainFrom110 (omega arith) (omega arith) least-gain-from-110 (lit< tt) 18000073 (lit≤ tt) (lit< tt)

@@ -18,7 +18,7 @@ use Rattle.phase.specs.declared.settings.Settings.{Settings}
 use Rattle.phase.specs.declared.state.PhaseState.{PhaseState}
 use Rattle.phase.specs.Operation.{kindOf}
 use Rattle.phase.specs.Settings.{tripLevel}
-use Rattle.phase.specs.State.{clearState, valid, validFor}
+use Rattle.phase.specs.State.{valid, validFor}
 use Rattle.phase.specs.Tick.{gainAt, startedAfter, started, nextBy, nextState, startBy, phaseStart}
 use Rattle.phase.specs.Ticks.{phaseAfter, stateAfter}
 use Rattle.phase.proofs.Accepted.{valid-in-limits, valid-kind}
@@ -36,11 +36,6 @@ pub field-is-start : (settings : Settings) (state : PhaseState) (g : ℕ) → ne
 unfolding nextState phaseStart
 field-is-start settings state g = field-by (kindOf (settings .operation)) (started settings state g) settings g state
 
--- 2. "a phase that wasn't still needs g greater than 100 x s", and the clear state wasn't
-pub clear-starts : (settings : Settings) (g : ℕ) → 100 * settings .«start_current» < g → started settings clearState g ≡ true
-unfolding started
-clear-starts settings g above = lt-ltb _ g above
-
 -- ---- the order of starts
 
 -- of two phases, the second with no smaller sample and started before wherever the first was: it is started wherever the first is
@@ -49,6 +44,12 @@ start-order settings true true g h on more e = le-leb _ h (omega (arith, leb-tru
 start-order settings true false g h on more e = absurd (false≢true (on refl))
 start-order settings false true g h on more e = le-leb _ h (omega (arith, ltb-true _ g e))
 start-order settings false false g h on more e = lt-ltb _ h (omega (arith, ltb-true _ g e))
+
+-- above the setting any phase is started, whatever its field
+pub starts-above : (settings : Settings) (state : PhaseState) (g : ℕ) → 100 * settings .«start_current» < g → started settings state g ≡ true
+unfolding started
+starts-above settings state g above =
+    start-order settings false (state .started) g g (λ on. absurd (false≢true on)) (le-refl g) (lt-ltb _ g above)
 
 -- ---- equal samples
 

@@ -3,6 +3,7 @@
 use Prim.Native.Nat.{ℕ, _+_, _-_, _/_, max}
 use mathlib.Core.Bool.{Bool, cond, _&&_}
 use lib.Dec.{ltb, leb, eqb}
+use Rattle.curve.specs.Ratio.{ratioOf}
 use Rattle.phase.specs.declared.operation.Kind.{Kind}
 use Rattle.phase.specs.declared.operation.Kind.the-variants.{Off, On}
 use Rattle.phase.specs.declared.operation.Timing.{Timing}
@@ -24,15 +25,15 @@ waitFor delay run = max 1 (delay - run)
 abbrev pub turns : ℕ → ℕ → ℕ → ℕ
 turns level sum gain = (level - sum + (gain - 1)) / gain
 
--- with no gain a sum below the level never reaches it
-abbrev pub firstFull : ℕ → ℕ → ℕ → ℕ → ℕ → ℕ
-firstFull n wait level sum gain =
-    cond (eqb gain 0 && ltb sum level) 0 (oneOf n (max wait (turns level sum gain)))
+-- at a ratio of 100 or less a sum stands still: one at the level waits for the delay alone, and one below it never gets there
+abbrev pub firstFull : ℕ → ℕ → ℕ → ℕ → ℕ → ℕ → ℕ
+firstFull n wait level sum ratio gain =
+    cond (leb ratio 100) (cond (ltb sum level) 0 (oneOf n wait)) (oneOf n (max wait (turns level sum gain)))
 
 abbrev pub firstDue : Timing → Settings → ℕ → ℕ → PhaseState → ℕ
 firstDue Definite settings g n state = oneOf n (waitFor (settings .«definite_delay») (state .run))
 firstDue (Curve rule) settings g n state =
-    firstFull n (waitFor (settings .«minimum_delay») (state .run)) (tripLevel settings) (state .sum) (gainAt settings g)
+    firstFull n (waitFor (settings .«minimum_delay») (state .run)) (tripLevel settings) (state .sum) (ratioOf g (settings .«start_current»)) (gainAt settings g)
 
 abbrev pub firstTripBy : Kind → Bool → Settings → ℕ → ℕ → PhaseState → ℕ
 firstTripBy Off isStarted settings g n state = 0

@@ -4,9 +4,8 @@ use Prim.Native.Nat.{ℕ, _^_, _≤_, _<_, max}
 use native.Mathlib.Nat.{mul-le-mul-right}
 use native.Mathlib.Omega.{arith}
 use mathlib.Core.Path.{_≡_, sym, _∙_}
-use borrow.Author.Tests.{eq-eqb}
 use Rattle.curve.proofs.GainLaws.{gain-at-most}
-use Rattle.grading.proofs.FirstTripLaws.{trip-by-gain, trip-by-turns}
+use Rattle.grading.proofs.FirstTripLaws.{gains, trip-by-turns}
 use borrow.Author.Needs.{needs}
 use Rattle.grading.proofs.first_trip.first_trip.Statement.{statement}
 use Rattle.grading.proofs.first_trip.first_trip.Tie as tie
@@ -20,56 +19,52 @@ larger-first a b h = omega arith
 larger-second : (a b : ℕ) → a ≤ b → max a b ≡ b
 larger-second a b h = omega arith
 
-returns : tie.Need-returns
-returns c =
-    let a = c .before .before .args in
-    let (trips, low, high) = c .before .before .pre in
-    sym (trip-by-gain (a .settings) trips (a .ratio) low high ∙ rw (eq-eqb _ 0 (sym (c .before .gain-of .ensures) ∙ c .if1 .taken)))
-
 trip-level-requires : tie.Need-trip-level-requires
 trip-level-requires c κs = search needs
 
 sub-turns : tie.Need-sub-turns
-sub-turns c = search needs
+sub-turns c =
+    let a = c .before .before .args in
+    let (trips, low, high) = c .before .before .pre in
+    rw (c .before .gain-of .ensures) (gains (a .settings) trips (a .ratio) low high)
 
 add-turns : tie.Need-add-turns
 add-turns c =
-    let a = c .before .before .before .args in
-    let (trips, low, high) = c .before .before .before .pre in
+    let a = c .before .before .args in
+    let (trips, low, high) = c .before .before .pre in
     let level : c .trip-level .result ≤ 1500000000000 = rw (c .trip-level .ensures) (mul-le-mul-right (10 ^ 9) (trips .range .multiplier-high)) in
-    let gain : c .before .before .gain-of .result ≤ 10 ^ 12 = rw (c .before .before .gain-of .ensures) (gain-at-most (a .settings .operation) (a .ratio)) in
+    let gain : c .before .gain-of .result ≤ 10 ^ 12 = rw (c .before .gain-of .ensures) (gain-at-most (a .settings .operation) (a .ratio)) in
     omega (arith, level, gain)
 
 div-turns : tie.Need-div-turns
-div-turns c = search needs
+div-turns c = sub-turns c
 
 cast-least : tie.Need-cast-least
 cast-least c = search needs
 
+returns : tie.Need-returns
+returns c =
+    let b = c .before .before .before .before in
+    let (trips, low, high) = b .pre in
+    let trip = trip-by-turns (b .args .settings) trips (b .args .ratio) low high _ _ (c .before .before .before .gain-of .ensures) (c .before .before .trip-level .ensures) in
+    sym (trip ∙ larger-first _ _ (c .if1 .taken))
+
 returns-2 : tie.Need-returns-2
 returns-2 c =
-    let b = c .before .before .before .before .before in
+    let b = c .before .before .before .before in
     let (trips, low, high) = b .pre in
-    let trip = trip-by-turns (b .args .settings) trips (b .args .ratio) low high _ _ (c .before .before .before .before .gain-of .ensures) (c .before .before .trip-level .ensures) (c .before .before .before .if1 .left) in
-    sym (trip ∙ larger-first _ _ (c .if2 .taken))
-
-returns-3 : tie.Need-returns-3
-returns-3 c =
-    let b = c .before .before .before .before .before in
-    let (trips, low, high) = b .pre in
-    let trip = trip-by-turns (b .args .settings) trips (b .args .ratio) low high _ _ (c .before .before .before .before .gain-of .ensures) (c .before .before .trip-level .ensures) (c .before .before .before .if1 .left) in
-    sym (trip ∙ larger-second _ _ (c .if2 .left))
+    let trip = trip-by-turns (b .args .settings) trips (b .args .ratio) low high _ _ (c .before .before .before .gain-of .ensures) (c .before .before .trip-level .ensures) in
+    sym (trip ∙ larger-second _ _ (c .if1 .left))
 
 pub first-trip-spec : {M : Type 1} → statement M
 first-trip-spec =
     tie.close
     (tie.spec
     gain-of-requires
-    returns
     trip-level-requires
     sub-turns
     add-turns
     div-turns
     cast-least
-    returns-2
-    returns-3)
+    returns
+    returns-2)

@@ -1,6 +1,6 @@
 -- `grading::margin::margin_ready` meets its contract.
 -- Assumes nothing.
-use Rattle.grading.proofs.FirstTripLaws.{first-trip-within}
+use Rattle.grading.proofs.FirstTripLaws.{first-trip-is}
 use Rattle.grading.proofs.MarginLaws.{margin-by-trips}
 use borrow.Author.Needs.{needs}
 use Rattle.grading.proofs.margin.margin_ready.Statement.{statement}
@@ -16,7 +16,7 @@ difference-requires : tie.Need-difference-requires
 difference-requires c κs =
     let a = c .before .before .args in
     let (pair, low, high) = c .before .before .pre in
-    (rw (c .before .first-trip .ensures) (first-trip-within (a .upstream) (pair .above) (a .ratio) low high), rw (c .first-trip2 .ensures) (first-trip-within (a .downstream) (pair .below) (a .ratio) low high))
+    (rw (c .before .first-trip .ensures) (first-trip-is (a .upstream) (pair .above) (a .ratio) low high .high), rw (c .first-trip2 .ensures) (first-trip-is (a .downstream) (pair .below) (a .ratio) low high .high))
 
 returns : tie.Need-returns
 returns c =

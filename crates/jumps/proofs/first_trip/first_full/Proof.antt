@@ -1,39 +1,36 @@
--- `jumps::first_trip::first_full` meets its contract: with no gain there is no turn to wait for.
+-- `jumps::first_trip::first_full` meets its contract: to the ratio 100 the sum waits alone, from 101 on there is a gain to divide by.
 -- Assumes nothing.
-use Prim.Native.Nat.{_+_, _-_, _/_, max}
+use Prim.Native.Nat.{_+_, _-_, _/_, _<_, max}
 use native.Mathlib.Omega.{arith}
 use mathlib.Core.Path.{_≡_, _∙_, ap}
 use borrow.Author.Needs.{needs}
-use borrow.Author.Tests.{eq-eqb, ne-eqb, lt-ltb, le-ltb}
+use borrow.Author.Tests.{le-leb, lt-leb, lt-ltb, le-ltb}
 use Rattle.jumps.specs.device.FirstTrip.{turns, oneOf}
-use Rattle.jumps.proofs.FirstTrips.{no-turns}
 use Rattle.jumps.proofs.first_trip.first_full.Statement.{statement}
 use Rattle.jumps.proofs.first_trip.first_full.Tie as tie
 
 returns : tie.Need-returns
-returns c = rw (eq-eqb _ 0 (c .before .if1 .taken), lt-ltb _ _ (c .if2 .taken))
+returns c =
+    rw (le-leb (c .before .before .args .ratio) 100 (omega (arith, c .before .if1 .taken)), lt-ltb _ _ (c .if2 .taken))
 
 one-of-requires : tie.Need-one-of-requires
 one-of-requires c κs = search needs
 
 returns-2 : tie.Need-returns-2
 returns-2 c =
-    let a = c .before .before .before .args in
-    let none = c .before .before .if1 .taken in
-    let last : a .wait ≡ max (a .wait) (turns (a .level) (a .sum) (a .gain)) = omega (arith, no-turns (a .level) (a .sum) (a .gain) none) in
-    rw (eq-eqb _ 0 none, le-ltb _ _ (c .before .if2 .left)) (c .one-of .ensures ∙ ap (oneOf (a .n)) last)
+    rw (le-leb (c .before .before .before .args .ratio) 100 (omega (arith, c .before .before .if1 .taken)), le-ltb _ _ (c .before .if2 .left)) (c .one-of .ensures)
 
 lacking-requires : tie.Need-lacking-requires
 lacking-requires c κs = search needs
 
 sub-turns : tie.Need-sub-turns
-sub-turns c = search needs
+sub-turns c = c .before .before .pre .2 (omega (arith, c .before .if1 .left))
 
 add-turns : tie.Need-add-turns
 add-turns c = search needs
 
 div-turns : tie.Need-div-turns
-div-turns c = search needs
+div-turns c = c .before .before .pre .2 (omega (arith, c .before .if1 .left))
 
 larger-requires : tie.Need-larger-requires
 larger-requires c κs = search needs
@@ -46,7 +43,7 @@ returns-3 c =
     let a = c .before .before .before .before .args in
     let last : c .before .larger .result ≡ max (a .wait) (turns (a .level) (a .sum) (a .gain)) =
     c .before .larger .ensures ∙ ap (λ d. max (a .wait) ((d + (a .gain - 1)) / a .gain)) (c .before .before .lacking .ensures) in
-    rw (ne-eqb _ 0 (c .before .before .before .if1 .left)) (c .one-of2 .ensures ∙ ap (oneOf (a .n)) last)
+    rw (lt-leb (a .ratio) 100 (omega (arith, c .before .before .before .if1 .left))) (c .one-of2 .ensures ∙ ap (oneOf (a .n)) last)
 
 pub first-full-spec : {M : Type 1} → statement M
 first-full-spec =

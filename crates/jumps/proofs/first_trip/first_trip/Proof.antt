@@ -1,5 +1,6 @@
 -- `jumps::first_trip::first_trip` meets its contract: rule 1, else the others.
 -- Assumes nothing.
+use mathlib.Core.Path.{_∙_}
 use borrow.Author.Needs.{needs}
 use Rattle.jumps.proofs.first_trip.first_trip.Statement.{statement}
 use Rattle.jumps.proofs.first_trip.first_trip.Tie as tie
@@ -11,7 +12,9 @@ enum-known-kind : tie.Need-enum-known-kind
 enum-known-kind c = search needs
 
 first-trip-on-requires : tie.Need-first-trip-on-requires
-first-trip-on-requires c κs = search needs
+first-trip-on-requires c κs =
+    let pre = c .before .before .before .pre in
+    (pre .0, pre .1 ∙ c .before .kind .given .1)
 
 returns : tie.Need-returns
 returns c = search needs

@@ -1,7 +1,7 @@
 -- `jumps::jump::jump_ready` meets its contract: the closed form is the walk.
 -- Assumes nothing.
 use native.Mathlib.Omega.{arith}
-use mathlib.Core.Path.{refl}
+use mathlib.Core.Path.{refl, sym}
 use borrow.Author.Needs.{needs}
 use Rattle.jumps.proofs.FirstTrips.{first-trip-closed}
 use Rattle.phase.proofs.Walk.{phase-after-none, ticks-closed}
@@ -20,7 +20,7 @@ advance-requires : tie.Need-advance-requires
 advance-requires c κs = search needs
 
 first-trip-requires : tie.Need-first-trip-requires
-first-trip-requires c κs = search needs
+first-trip-requires c κs = (c .before .before .before .pre .0, sym (c .before .kind-of .ensures))
 
 trip-tick-requires : tie.Need-trip-tick-requires
 trip-tick-requires c κs = search needs
