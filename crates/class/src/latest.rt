@@ -2,35 +2,30 @@
 use crate::line::say;
 use crate::line::verdict;
 use crate::phases::is_at;
+use crate::phases::settings_of;
 use jumps::jump::Jumped;
 use jumps::jump::jump;
 use phase::PhaseState;
 use phase::Settings;
 
-// A curve and one of its 1,900 ratios for each number below 11 x 1,900.
-fn gain_number(i: u32) -> u64 {
+// The gain of a curve at one of its 1,900 ratios, for each number below 11 x 1,900.
+fn nth_gain(i: u32) -> u64 {
     curve::gain_of(2 + i / 1900, 101 + i % 1900)
 }
 
 fn gains_at_least(least: u64) -> bool {
     let mut all = true;
     for i in 0..20900 {
-        all = all & (least <= gain_number(i));
+        all = all & (least <= nth_gain(i));
     }
     all
 }
 
 // IEC LongInv with the highest time multiplier.
 fn slowest() -> Settings {
-    Settings {
-        operation: 5,
-        start_current: 200,
-        time_multiplier: 1500,
-        minimum_delay: 40,
-        definite_delay: 40,
-        reset_time: 60,
-        start_only: 0,
-    }
+    let mut settings = settings_of(5, 200);
+    settings.time_multiplier = 1500;
+    settings
 }
 
 // So many hours from clear: the longest jump is an hour.

@@ -117,6 +117,10 @@ pub(crate) fn phase_examples() {
     verdict(held.start & (held.state.sum == 1000));
     say(b"run 1, full sum, minimum delay 40, sample 19000: trips at tick 39");
     verdict(trips_first_at(19000, 39));
+    say(
+        b"run 1, full sum, minimum delay 40, sample 20001: trips at tick 39, though it gains nothing",
+    );
+    verdict(trips_first_at(20001, 39));
     say(b"reset time 60, 59 idle ticks keep the sum");
     verdict(sum_after(59) == 1000);
     say(b"reset time 60, 60 idle ticks clear it");

@@ -1,6 +1,6 @@
 -- The least gain of all curves from a ratio on: from 101, the lowest that has one (02, E10), and from 110 (E8).
 -- Assumes nothing.
-use Prim.Native.Nat.{ℕ, _+_, _-_, _*_, _/_, _^_, _≤_, _<_}
+use Prim.Native.Nat.{ℕ, _+_, _*_, _/_, _^_, _≤_, _<_}
 use native.Mathlib.Nat.{add-le-add, div-mul-le-self, le-div-iff-mul-le, le-refl, le-trans, mul-comm, mul-le-mul-left}
 use native.Mathlib.Omega.{arith}
 use mathlib.Core.Bool.{Bool, true}
@@ -20,8 +20,8 @@ use Rattle.curve.specs.Rounding.{roundedUp}
 use Rattle.curve.specs.Time.{hasOperateTime, inversePart, operateTime}
 use Rattle.curve.proofs.GainLaws.{gain-by-time}
 use Rattle.curve.proofs.OrderLaws.{gain-never-falls}
-use Rattle.curve.proofs.RoundingLaws.{rounded-up-order, rounded-up-times}
-use Rattle.curve.proofs.TimeLaws.{row-passes, square-above, operate-time-by-parts, operate-time-at-least}
+use Rattle.curve.proofs.RoundingLaws.{rounded-up-order}
+use Rattle.curve.proofs.TimeLaws.{row-passes, operate-time-by-parts, operate-time-at-least}
 
 -- ---- the statement
 
@@ -32,24 +32,21 @@ pub record LeastFrom (low least : ℕ) : Type 0 where
 
 -- ---- how long the curves take at a ratio
 
--- what each unit of k adds to the time at m, at most, where X(m) is at most x
-abbrev eachK : ℕ → ℕ → Power → ℕ
-eachK m x Fiftieth = roundedUp x 10000
-eachK m x First = roundedUp 10000 (m - 100)
-eachK m x Second = roundedUp 1000000 (m * m - 10000)
+-- the most that a curve adds to c at m, where X(m) is at most x: X itself is not computed
+abbrev partAtMost : ℕ → ℕ → Power → ℕ → ℕ
+partAtMost m x Fiftieth k = roundedUp (k * x) 10000
+partAtMost m x First k = inversePart First k m
+partAtMost m x Second k = inversePart Second k m
 
 -- whether a curve with such constants takes at most the longest time that has so large a gain
 abbrev quickEnough : ℕ → ℕ → ℕ → Constants → Bool
-quickEnough m x least row = leb (row .c + row .k * eachK m x (row .a)) (10 ^ 14 / least)
+quickEnough m x least row = leb (row .c + partAtMost m x (row .a) (row .k)) (10 ^ 14 / least)
 
--- of a ratio, and of a number that X is at most there: X itself is not computed
 module _ (low x : ℕ) (from-101 : 101 ≤ low) (to-2000 : low ≤ 2000) (within : X low ≤ x) where
-  part-within : (a : Power) (k : ℕ) → inversePart a k low ≤ k * eachK low x a
-  part-within Fiftieth k =
-      le-trans (rounded-up-times k (X low) 10000 (omega arith))
-      (mul-le-mul-left k (rounded-up-order _ _ 10000 10000 (omega arith) within (le-refl 10000)))
-  part-within First k = rounded-up-times k 10000 (low - 100) (omega arith)
-  part-within Second k = rounded-up-times k 1000000 (low * low - 10000) (omega (arith, square-above low from-101 to-2000))
+  part-within : (a : Power) (k : ℕ) → inversePart a k low ≤ partAtMost low x a k
+  part-within Fiftieth k = rounded-up-order _ _ _ _ (omega arith) (mul-le-mul-left k within) (le-refl 10000)
+  part-within First k = le-refl _
+  part-within Second k = le-refl _
 
   -- one test, computed over the eleven rows, tells the least gain at the ratio, and the order of the gains that from it on
   least-from : (least : ℕ) → everyBelow (λ i. quickEnough low x least (numbersIn curveTable (2 + i))) 11 ≡ true → gainOf 5 low ≡ least → LeastFrom low least

@@ -1,7 +1,7 @@
 -- More current is never slower (02, E8): as m grows the operate time never rises and the gain never falls, the reset time never falls
 -- and the loss never rises.
 -- Assumes nothing.
-use Prim.Native.Nat.{ℕ, _+_, _-_, _*_, _/_, _^_, _≤_, _<_}
+use Prim.Native.Nat.{ℕ, _/_, _^_, _≤_, _<_}
 use native.Mathlib.Nat.{add-le-add, div-mul-le-self, le-div-iff-mul-le, le-refl, le-trans, mul-le-mul, mul-le-mul-left}
 use native.Mathlib.Omega.{arith}
 use mathlib.Core.Bool.{Bool, true, false, cond, _&&_}

@@ -1,7 +1,7 @@
 -- A quotient rounded up: what it means, its size, its order, and the one division that gives it.
 -- Assumes nothing.
 use Prim.Native.Nat.{ℕ, suc, _+_, _-_, _*_, _/_, _%_, _≤_, _<_}
-use native.Mathlib.Nat.{div-add-mod', mod-lt, div-eq-of-lt-le, div-le-self, div-lt-iff-lt-mul, le-div-iff-mul-le, le-trans, mul-assoc, mul-le-mul-left, suc-mul}
+use native.Mathlib.Nat.{div-add-mod', mod-lt, div-eq-of-lt-le, div-le-self, div-lt-iff-lt-mul, le-div-iff-mul-le, le-trans, mul-le-mul-left, suc-mul}
 use native.Mathlib.Omega.{arith}
 use mathlib.Core.Bool.{Bool, true, false, cond}
 use mathlib.Core.Path.{_≡_, refl}
@@ -50,9 +50,3 @@ pub rounded-up-order : (n n' d d' : ℕ) → 0 < d' → n ≤ n' → d' ≤ d �
 rounded-up-order n n' d d' pos more less =
     rounded-up-within (roundedUp n' d') n d (le-trans pos less)
     (le-trans more (le-trans (rounded-up-reaches n' d' pos) (mul-le-mul-left (roundedUp n' d') less)))
-
--- of a number taken k times it is at most k times as much
-pub rounded-up-times : (k n d : ℕ) → 0 < d → roundedUp (k * n) d ≤ k * roundedUp n d
-rounded-up-times k n d pos =
-    rounded-up-within (k * roundedUp n d) (k * n) d pos
-    (rw (mul-assoc k (roundedUp n d) d) (mul-le-mul-left k (rounded-up-reaches n d pos)))

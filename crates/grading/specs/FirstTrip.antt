@@ -12,6 +12,7 @@ sampleAt settings ratio = ratio * settings .«start_current»
 abbrev pub longestWait : ℕ
 longestWait = 1500 * 10 ^ 9
 
--- "the first trip tick", of the walked ticks, "from clear"; at a ratio from 101 on there is one, `first-trip-is` of `proofs/`
+-- "the first trip tick", of the walked ticks, "from clear"; 0 where there is none, which no relay that is graded has: `first-trip-is` of
+-- `proofs/`
 unfoldable pub firstTripAt : Settings → ℕ → ℕ
 firstTripAt settings ratio = firstTrip settings (sampleAt settings ratio) longestWait clearState

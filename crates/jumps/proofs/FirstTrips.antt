@@ -27,7 +27,7 @@ use Rattle.phase.specs.State.{runLimit}
 use Rattle.phase.specs.Tick.{gainAt, started, due, tripBy}
 use Rattle.phase.specs.Ticks.{tripAt, always}
 use Rattle.jumps.proofs.FirstOfLaws.{FirstAt, first-means, first-same, first-none, first-from}
-use Rattle.phase.proofs.PaceLaws.{gains-above-100}
+use Rattle.phase.proofs.PaceLaws.{curve-gains-from-101}
 use Rattle.phase.proofs.Walk.{trip-closed}
 
 -- ---- tests
@@ -96,7 +96,7 @@ due-first Definite settings g n state range kind =
 due-first (Curve rule) settings g n state range kind =
     full-first (tripLevel settings) (state .sum) (ratioOf g (settings .«start_current»)) (gainAt settings g) (state .run) (settings .«minimum_delay») n (range .minimum-high)
     (gain-zero-to-100 (settings .operation) _)
-    (gains-above-100 settings rule g range kind)
+    (curve-gains-from-101 settings rule g range kind)
 
 trip-first : (kind : Kind) (b allowed : Bool) (settings : Settings) (g n : ℕ) (state : PhaseState) → InRange settings → kindOf (settings .operation) ≡ kind → eqb (settings .«start_only») 0 ≡ allowed → firstOf (λ (k : ℕ). tripBy kind b settings (advanceBy kind b settings g k state)) n ≡ firstTripBy kind b settings g n state
 trip-first Off b allowed settings g n state range own e = first-none _ n (λ k. refl)

@@ -1,5 +1,5 @@
--- The latest trip: on any curve, with start only off, a phase held at a ratio of 101 or more trips (02, E10), and at 110 or more ten times
--- as soon (E8). These are walked ticks, and more of them than a jump has.
+-- The latest trip: on any curve, with start only off, a phase held at a ratio of 101 or more trips (02, E10), and one held at 110 or more
+-- within a tenth of the ticks (E8). These are walked ticks, and more of them than a jump has.
 -- Assumes nothing.
 use Prim.Native.Nat.{ℕ, zero, suc, _+_, _-_, _*_, _^_, _≤_, _<_, min}
 use native.Mathlib.Nat.{le-refl, le-trans, lt-of-not-le, mul-le-mul-left, mul-le-mul-right, zero-add}
@@ -20,6 +20,7 @@ use Rattle.phase.specs.State.{runLimit, clearState, valid}
 use Rattle.phase.specs.Tick.{gainAt, started}
 use Rattle.phase.specs.Ticks.{tripAt, always}
 use Rattle.phase.proofs.Accepted.{settings-in-range}
+use Rattle.phase.proofs.PaceLaws.{level-small}
 use Rattle.phase.proofs.StartLaws.{starts-above}
 use Rattle.phase.proofs.TripLaws.{curves-from-2}
 use Rattle.phase.proofs.TwoRuns.{more-is-never-slower}
@@ -63,9 +64,6 @@ module _ (low least : ℕ) (from-101 : 101 ≤ low) (to-2000 : low ≤ 2000) (ga
 
     above-0 : 0 < settings .«start_current»
     above-0 = le-trans (omega arith) (range .start-low)
-
-    level-small : tripLevel settings ≤ 1500 * 10 ^ 9
-    level-small = mul-le-mul-right (10 ^ 9) (range .multiplier-high)
 
     waited : (n : ℕ) → tripLevel settings ≤ n * least → 60000 < n
     waited n late =
@@ -128,17 +126,17 @@ module _ (low least : ℕ) (from-101 : 101 ≤ low) (to-2000 : low ≤ 2000) (ga
       let late : (n : ℕ) → tick ≤ n → 1500 * 10 ^ 9 ≤ n * least = λ n h. le-trans fills (mul-le-mul-right least h) in
       record {
         trips = samples-trip;
-        by-tick = λ settings on state v sample n held h. samples-trip settings on state v sample n held (le-trans (level-small settings on) (late n h));
+        by-tick = λ settings on state v sample n held h. samples-trip settings on state v sample n held (le-trans (level-small settings (range settings on)) (late n h));
         exactly = just-then;
         exactly-by-tick = λ settings on op highest g at-low n. just-then settings on op g at-low n ∙ rw highest (leb-iff _ (n * least) tick n (no-sooner _ least tick n short) (late n));
       }
 
--- "the trip that never comes" (E10) comes by tick 180,007,201
+-- E10: at 101 or more by tick 180,007,201
 pub latest-trip : LatestTrip 101 leastGain 180007201
 latest-trip = latest-from 101 leastGain (omega arith) (omega arith) least-gain (lit< tt) 180007201 (lit≤ tt) (lit< tt)
 
--- "a phase held at m of 110 or more from clear has tripped by tick 18,000,073, and this is the exact tick for IEC LongInv at m 110 and M
--- 1500" (E8)
+-- E8: "a phase held at m of 110 or more from clear has tripped by tick 18,000,073, and this is the exact tick for IEC LongInv at m 110 and
+-- M 1500"; the clear state is a valid one, `clear-is-valid`
 pub latest-trip-from-110 : LatestTrip 110 leastGainFrom110 18000073
 latest-trip-from-110 =
     latest-from 110 leastGainFrom110 (omega arith) (omega arith) least-gain-from-110 (lit< tt) 18000073 (lit≤ tt) (lit< tt)

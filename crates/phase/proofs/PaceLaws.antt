@@ -18,7 +18,7 @@ use Rattle.phase.specs.Operation.{kindOf}
 use Rattle.phase.specs.Settings.{tripLevel}
 use Rattle.phase.specs.Tick.{gainAt}
 use Rattle.phase.specs.device.Ranges.{InRange}
-use Rattle.phase.proofs.TripLaws.{curve-from-2}
+use Rattle.phase.proofs.TripLaws.{curve-is-from-2}
 
 pub gain-small : (settings : Settings) (pace : Pace) (state : PhaseState) → Ready settings pace state → pace .gain ≤ 1000000000000
 gain-small settings pace state r = rw (r .gain) (gain-at-most _ _)
@@ -30,6 +30,6 @@ pub level-small : (settings : Settings) → InRange settings → tripLevel setti
 level-small settings range = omega arith
 
 -- from 101 on every curve gains (02, E10)
-pub gains-above-100 : (settings : Settings) (rule : ResetRule) (g : ℕ) → InRange settings → kindOf (settings .operation) ≡ On (Curve rule) → 100 < ratioOf g (settings .«start_current») → 0 < gainAt settings g
-gains-above-100 settings rule g range kind above =
-    gain-above-0 (settings .operation) _ (curve-from-2 (settings .operation) rule kind) (range .operation) above (ratio-at-most g (settings .«start_current»))
+pub curve-gains-from-101 : (settings : Settings) (rule : ResetRule) (g : ℕ) → InRange settings → kindOf (settings .operation) ≡ On (Curve rule) → 100 < ratioOf g (settings .«start_current») → 0 < gainAt settings g
+curve-gains-from-101 settings rule g range kind above =
+    gain-above-0 (settings .operation) _ (curve-is-from-2 (settings .operation) rule kind) (range .operation) above (ratio-at-most g (settings .«start_current»))

@@ -58,8 +58,7 @@ on-again : (timing : Timing) (b : Bool) (settings : Settings) (g : ℕ) (state :
 unfolding started
 on-again timing true settings g state e = start-order settings (state .started) true g g (λ on. refl) (le-refl g) e
 on-again timing false settings g state e =
-    not-true _
-    (λ t. not-both _ (start-order settings false (state .started) g g (λ on. absurd (false≢true on)) (le-refl g) t) e)
+    not-true _ (λ t. not-both _ (starts-above settings state g (ltb-true _ g t)) e)
 
 start-again : (kind : Kind) (settings : Settings) (g : ℕ) (state : PhaseState) → startBy kind (started settings (nextBy kind (started settings state g) settings g state) g) ≡ startBy kind (started settings state g)
 start-again Off settings g state = refl

@@ -14,8 +14,8 @@ abbrev μ-loop : tie.MeasureT-loop
 loop-holds : tie.Need-loop-holds Inv-loop μ-loop
 loop-holds c = search needs
 
-gain-number-requires : tie.Need-gain-number-requires Inv-loop μ-loop
-gain-number-requires c κs = search needs
+nth-gain-requires : tie.Need-nth-gain-requires Inv-loop μ-loop
+nth-gain-requires c κs = search needs
 
 add-i : tie.Need-add-i Inv-loop μ-loop
 add-i c = search needs
@@ -32,4 +32,4 @@ returns c = search needs
 pub gains-at-least-spec : {M : Type 1} → statement M
 gains-at-least-spec =
     tie.close
-    (tie.spec Inv-loop μ-loop loop-holds gain-number-requires add-i loop-less loop-again returns)
+    (tie.spec Inv-loop μ-loop loop-holds nth-gain-requires add-i loop-less loop-again returns)

@@ -22,11 +22,14 @@ larger-second a b h = omega arith
 trip-level-requires : tie.Need-trip-level-requires
 trip-level-requires c κs = search needs
 
-sub-turns : tie.Need-sub-turns
-sub-turns c =
+div-turns : tie.Need-div-turns
+div-turns c =
     let a = c .before .before .args in
     let (trips, low, high) = c .before .before .pre in
     rw (c .before .gain-of .ensures) (gains (a .settings) trips (a .ratio) low high)
+
+sub-turns : tie.Need-sub-turns
+sub-turns c = omega (arith, div-turns c)
 
 add-turns : tie.Need-add-turns
 add-turns c =
@@ -35,9 +38,6 @@ add-turns c =
     let level : c .trip-level .result ≤ 1500000000000 = rw (c .trip-level .ensures) (mul-le-mul-right (10 ^ 9) (trips .range .multiplier-high)) in
     let gain : c .before .gain-of .result ≤ 10 ^ 12 = rw (c .before .gain-of .ensures) (gain-at-most (a .settings .operation) (a .ratio)) in
     omega (arith, level, gain)
-
-div-turns : tie.Need-div-turns
-div-turns c = sub-turns c
 
 cast-least : tie.Need-cast-least
 cast-least c = search needs

@@ -4,7 +4,7 @@ use native.Mathlib.Omega.{arith}
 use mathlib.Core.Path.{_∙_, ap}
 use borrow.Author.Needs.{needs}
 use Rattle.phase.specs.declared.operation.Kind.the-variants.{On}
-use Rattle.phase.proofs.PaceLaws.{gain-small, gains-above-100, level-small}
+use Rattle.phase.proofs.PaceLaws.{curve-gains-from-101, gain-small, level-small}
 use Rattle.jumps.proofs.first_trip.first_due.Statement.{statement}
 use Rattle.jumps.proofs.first_trip.first_due.Tie as tie
 
@@ -37,7 +37,7 @@ first-full-requires c κs =
     let own = kind ∙ ap On (c .before .before .before .enum-told2 .given .1) in (
       omega (arith, c .trip-level .ensures, level-small (a .settings) (r .range)),
       gain-small (a .settings) (a .pace) (a .state) r,
-      λ above. rw (r .gain) (gains-above-100 (a .settings) _ (a .pace .sample) (r .range) own (rw (c .before .ratio-of .ensures) at above)),
+      λ above. rw (r .gain) (curve-gains-from-101 (a .settings) _ (a .pace .sample) (r .range) own (rw (c .before .ratio-of .ensures) at above)),
     )
 
 returns : tie.Need-returns

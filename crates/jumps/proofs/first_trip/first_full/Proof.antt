@@ -1,6 +1,6 @@
 -- `jumps::first_trip::first_full` meets its contract: to the ratio 100 the sum waits alone, from 101 on there is a gain to divide by.
 -- Assumes nothing.
-use Prim.Native.Nat.{_+_, _-_, _/_, _<_, max}
+use Prim.Native.Nat.{_+_, _-_, _/_, max}
 use native.Mathlib.Omega.{arith}
 use mathlib.Core.Path.{_≡_, _∙_, ap}
 use borrow.Author.Needs.{needs}
@@ -23,14 +23,14 @@ returns-2 c =
 lacking-requires : tie.Need-lacking-requires
 lacking-requires c κs = search needs
 
+div-turns : tie.Need-div-turns
+div-turns c = c .before .before .pre .2 (omega (arith, c .before .if1 .left))
+
 sub-turns : tie.Need-sub-turns
-sub-turns c = c .before .before .pre .2 (omega (arith, c .before .if1 .left))
+sub-turns c = omega (arith, div-turns c)
 
 add-turns : tie.Need-add-turns
 add-turns c = search needs
-
-div-turns : tie.Need-div-turns
-div-turns c = c .before .before .pre .2 (omega (arith, c .before .if1 .left))
 
 larger-requires : tie.Need-larger-requires
 larger-requires c κs = search needs
