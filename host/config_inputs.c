@@ -792,7 +792,8 @@ static const struct recording {
     {"", 0, "", false, 29, "byte 0, field 1: no digit in the field"},
     {"1,200,100,40,40,60,0\n", 3, "", false, 31, "byte 20, field 7: " STRAY LF_ENDS},
     {"1,200,100,40,40,60,0", 0, "", false, 33, "byte 20, field 7: CR LF is missing, or bytes follow it"},
-    {"", 3, "", false, 32, "byte 15, field 6: too few or too many fields"},
+    {"", 3, "", false, 32, "byte 15, field 6: too few or too many fields"
+     "; this looks like data row 1: is the settings line missing?"},
     {"13,200,100,40,40,60,0\r\n", 3, "", false, 1, ""},
     {"1,9,100,40,40,60,0\r\n", 3, "", false, 2, ""},
     {"1,200,4,40,40,60,0\r\n", 3, "", false, 3, ""},

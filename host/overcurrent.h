@@ -9,15 +9,26 @@
  * keep nothing between calls: all that goes on from one batch to the next is
  * in the caller's `states`.
  *
- * The archive is for x86-64.
- * Stack needed: under 600 bytes, whatever the operation. `host/run --count` measures it.
+ * The archive is for x86-64, by the System V calling convention.
+ * Stack needed: under 600 bytes, whatever the operation (`host/run --count` measures
+ * it), after the 112 of a call of oc_batch, for 13 arguments and the return address.
  * It wants no symbol from elsewhere, memcpy neither.
  * It divides no 64-bit number (the ratio of a sample is a 32-bit division):
  * gains and losses are worked out by shift and subtract, some 420 instructions
  * for one of them. A batch works one out where a sample of a phase has another
  * ratio to the start current than the sample before, and for the first of the
  * batch; on definite time never, and on IEC curves only above the setting. So a
- * batch of one tick takes some 750 to 2,100 instructions.
+ * batch of one tick takes some 750 to 2,100 instructions, on Off some 300.
+ *
+ * Threads and interrupts. The archive has no state of its own: no data that
+ * changes, no lock, no allocation, no call of the system. So calls on different
+ * memory may run at the same time, on several threads or in an interrupt; on the
+ * same out or states one at a time. A batch is not atomic: while it runs nobody
+ * else writes to any of its slices, and whoever reads out or states may see them
+ * half done. A bare interrupt handler that calls the archive saves xmm0 to xmm15
+ * and leaves alone the 128 bytes below the interrupted stack pointer, as before any
+ * function of this convention. The proofs speak of one call by itself; `host/run`
+ * fails where the archive has data that changes, locks or calls the system.
  */
 #ifndef OVERCURRENT_H
 #define OVERCURRENT_H
@@ -50,9 +61,9 @@ enum oc_operation {
  * Refusal numbers. Where several apply to a call, the lowest is given.
  *
  * oc_check_settings gives 0 to 7; oc_batch gives any of these. The other
- * numbers, 9, 13, 15, the record's 16 and 17, the configuration's 18 to 28 and
- * the bench's 29 to 33, for a line of wrong shape, belong to calls that the
- * archive does not export; 12 is retired. docs/FORMATS.md has them all.
+ * numbers, 9, 13, 15, the record's 16 and 17, the configuration's 18 to 28, the
+ * bench's 29 to 33, for a line of wrong shape, and the grades' 34 to 36, belong to
+ * calls that the archive does not export; 12 is retired. docs/FORMATS.md has them all.
  */
 enum oc_refusal {
     OC_ACCEPTED = 0,
@@ -76,7 +87,7 @@ enum oc_refusal {
      *             or 0 where run is not.
      * On Definite a phase that is not started may have any run and drop to
      * 60000. States kept from before a change of settings may be refused by this
-     * number; they are never cleared silently.
+     * number; they are never cleared silently. host/example.c has what to do then.
      */
     OC_BAD_STATE = 8,
 
@@ -144,16 +155,17 @@ uint32_t oc_check_settings(uint32_t operation, uint32_t start_current, uint32_t 
  *
  * Accepted (0): out holds the output of every tick, and states the states
  * after the last one, to be handed to the next batch as they are. A batch of
- * 0 ticks is accepted and leaves the states as they were.
+ * 0 ticks leaves the states as they were. Only 1 to 8 refuse it, so it tells
+ * whether the states are valid under the settings.
  *
  * Refused: no byte of out or states is touched. Whatever out holds then is
  * what the caller left there; it reports nothing.
  *
  * The caller sees to it that
  *   - each pointer has as many bytes behind it as its length says;
- *   - no two slices overlap, out and states least of all.
- * A slice of length 0 may be NULL. No alignment is needed. The archive does
- * not write to l1, l2, l3 and block.
+ *   - out and states overlap neither each other nor any other slice.
+ * l1, l2, l3 and block are only read: they may overlap or be the same memory.
+ * A slice of length 0 may be NULL. No alignment is needed.
  */
 uint32_t oc_batch(uint32_t operation, uint32_t start_current, uint32_t time_multiplier,
                   uint32_t minimum_delay, uint32_t definite_delay, uint32_t reset_time,

@@ -69,16 +69,37 @@ static bool is_digit(char byte)
     return '0' <= byte && byte <= '9';
 }
 
+/* Whether the first line is data row 1: its number is 1, and its other fields are right. */
+static bool is_row_1(void)
+{
+    static const size_t most[] = {6, 10, 7, 7, 7, 1};
+    size_t at = 0, number = 0;
+    for (size_t field = 0; field < 6; field++) {
+        size_t from = at;
+        for (; at < used && is_digit(text[at]); at++)
+            if (field == 0)
+                number = 10 * number + (size_t)(text[at] - '0');
+        if (at == from || at - from > most[field] || at == used || text[at] != (field < 5 ? ',' : '\r'))
+            return false;
+        at++;
+    }
+    return number == 1 && at < used && text[at] == '\n';
+}
+
 static const char *fault_hint(void)
 {
     const char *line = text + fault.line;
     unsigned last_field = fault.row == 0 ? 7 : 6;
+    if (fault.row == 0 && is_row_1())
+        return "; this looks like data row 1: is the settings line missing?";
     if (fault.refusal != STRAY_BYTE)
         return "";
     if (line[fault.byte] == '\n' && fault.field == last_field && is_digit(line[fault.byte - 1]))
         return "; the file seems to have LF line ends, where CR LF is due";
     if (used - fault.line >= 3 && memcmp(line, "\xef\xbb\xbf", 3) == 0)
         return "; the line begins with a byte order mark";
+    if (line[fault.byte] == ';')
+        return "; a semicolon stands where a comma is due";
     return "";
 }
 

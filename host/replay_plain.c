@@ -197,6 +197,8 @@ static const char *hint_of(const struct line *line, size_t at)
         return "; the file seems to have LF line ends, where CR LF is due";
     if (line->length >= sizeof mark && memcmp(line->bytes, mark, sizeof mark) == 0)
         return "; the line begins with a byte order mark";
+    if (byte_is(line, at, ';'))
+        return "; a semicolon stands where a comma is due";
     return "";
 }
 
@@ -239,13 +241,25 @@ static uint32_t wrong_shape(int fields, const int most[])
 
 /* ---- The settings line and the rows ---- */
 
+static const int row_most[6] = {6, 10, 7, 7, 7, 1};
+
+/* The refusal of the next line where the settings line is due, with a hint where it is data row 1. */
+static uint32_t wrong_settings(const int most[])
+{
+    uint32_t refusal = wrong_shape(7, most);
+    uint64_t v[6];
+    if (next < filled && read_line(6, row_most, v) && v[0] == 1)
+        place.hint = "; this looks like data row 1: is the settings line missing?";
+    return refusal;
+}
+
 /* "The settings line holds the seven settings the same way, 1 to 5 digits each." */
 static uint32_t read_settings(struct plain_settings *set)
 {
     static const int most[7] = {5, 5, 5, 5, 5, 5, 5};
     uint64_t v[7];
     if (!another_line() || !read_line(7, most, v)) /* "an empty input is one with no digit" */
-        return wrong_shape(7, most);
+        return wrong_settings(most);
     *set = (struct plain_settings){(uint32_t)v[0], (uint32_t)v[1], (uint32_t)v[2], (uint32_t)v[3],
                                    (uint32_t)v[4], (uint32_t)v[5], (uint32_t)v[6]};
     return plain_check_settings(set->operation, set->start_current, set->time_multiplier,
@@ -261,10 +275,9 @@ struct row {
 /* "number, timestamp, L1, L2, L3, block"; "The timestamp is read and ignored." */
 static uint32_t read_row(uint32_t last_number, struct row *row)
 {
-    static const int most[6] = {6, 10, 7, 7, 7, 1};
     uint64_t v[6];
-    if (!read_line(6, most, v))
-        return wrong_shape(6, most);
+    if (!read_line(6, row_most, v))
+        return wrong_shape(6, row_most);
     if (v[0] != last_number + 1)
         return WRONG_NUMBER;
     if (v[5] > 1)

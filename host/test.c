@@ -29,7 +29,7 @@ static const char *const slice_names[SLICES] = {"l1", "l2", "l3", "block", "out"
 
 enum kind {
     WORKED, CHECKED, ENDS, RATIOS, VALIDITY, LENGTHS, BLOCKS, LONG,
-    FAULTS, EMPTY, SHORT, CARRIED, DIPS, PECKING, KINDS
+    FAULTS, EMPTY, SHORT, CARRIED, DIPS, PECKING, SHARED, KINDS
 };
 
 static const char *const kind_names[KINDS] = {
@@ -47,6 +47,7 @@ static const char *const kind_names[KINDS] = {
     [CARRIED] = "batches that carry states on",
     [DIPS] = "dips around the reset time and long decays",
     [PECKING] = "faults that come and go",
+    [SHARED] = "read slices that overlap or are the same memory",
 };
 
 enum { LIMIT = 60000, CAPACITY = 4 * (LIMIT + 2), REFUSALS = 16, OPERATIONS = 13 };
@@ -179,21 +180,41 @@ static void set_settings(uint32_t operation, uint32_t s, uint32_t multiplier, ui
 enum { GUARD = 64, GUARD_BYTE = 0xa5 };
 
 static uint8_t rooms[SLICES][GUARD + CAPACITY + GUARD + 8];
+static struct { uint8_t *start, *end; } guarded[SLICES]; /* where the slice lies */
 static uint8_t *lent[SLICES];
 static uint8_t expected_out[CAPACITY], expected_states[CAPACITY];
 
-/* Slices begin at any address, since none needs to be aligned; an empty one may be NULL. */
+/* At any address, since no slice needs to be aligned. */
+static void put_between_guards(enum slice slice, const uint8_t *bytes, size_t length)
+{
+    uint8_t *start = rooms[slice] + below(8) + GUARD;
+    memset(start - GUARD, GUARD_BYTE, GUARD);
+    memcpy(start, bytes, length);
+    memset(start + length, GUARD_BYTE, GUARD);
+    guarded[slice].start = start;
+    guarded[slice].end = start + length;
+}
+
 static void lend(void)
 {
-    for (int i = 0; i < SLICES; i++) {
-        uint8_t *start = rooms[i] + below(8);
-        memset(start, GUARD_BYTE, GUARD);
-        memcpy(start + GUARD, batch.bytes[i], batch.length[i]);
-        memset(start + GUARD + batch.length[i], GUARD_BYTE, GUARD);
-        lent[i] = start + GUARD;
+    for (enum slice i = L1; i < SLICES; i++) {
+        put_between_guards(i, batch.bytes[i], batch.length[i]);
+        lent[i] = guarded[i].start;
     }
 }
 
+/* The read slices lie in these bytes, each from its place on. */
+static void lend_shared(const uint8_t *bytes, size_t length, const size_t *places)
+{
+    lend();
+    put_between_guards(L1, bytes, length);
+    for (enum slice i = L1; i <= BLOCK; i++) {
+        guarded[i] = guarded[L1];
+        lent[i] = guarded[L1].start + places[i];
+    }
+}
+
+/* An empty slice may be NULL. */
 static uint8_t *pointer_to(enum slice slice)
 {
     return batch.length[slice] == 0 && one_in(2) ? NULL : lent[slice];
@@ -201,8 +222,8 @@ static uint8_t *pointer_to(enum slice slice)
 
 static bool guards_kept(enum slice slice)
 {
-    const uint8_t *before = lent[slice] - GUARD;
-    const uint8_t *after = lent[slice] + batch.length[slice];
+    const uint8_t *before = guarded[slice].start - GUARD;
+    const uint8_t *after = guarded[slice].end;
     for (int i = 0; i < GUARD; i++)
         if (before[i] != GUARD_BYTE || after[i] != GUARD_BYTE)
             return false;
@@ -323,8 +344,8 @@ static void tally(enum kind kind, uint32_t refusal)
     }
 }
 
-/* Returns the archive's answer. */
-static uint32_t try_batch(enum kind kind)
+/* Returns the archive's answer on what was lent. */
+static uint32_t try_lent(enum kind kind)
 {
     const uint32_t *v = batch.settings;
     const size_t *n = batch.length;
@@ -334,7 +355,6 @@ static uint32_t try_batch(enum kind kind)
                                   batch.bytes[L1], n[L1], batch.bytes[L2], n[L2],
                                   batch.bytes[L3], n[L3], batch.bytes[BLOCK], n[BLOCK],
                                   expected_out, n[OUT], expected_states, n[STATES]);
-    lend();
     uint32_t got = oc_batch(v[0], v[1], v[2], v[3], v[4], v[5], v[6],
                             pointer_to(L1), n[L1], pointer_to(L2), n[L2],
                             pointer_to(L3), n[L3], pointer_to(BLOCK), n[BLOCK],
@@ -342,6 +362,12 @@ static uint32_t try_batch(enum kind kind)
     compare(kind, got, wanted);
     tally(kind, wanted);
     return got;
+}
+
+static uint32_t try_batch(enum kind kind)
+{
+    lend();
+    return try_lent(kind);
 }
 
 /* The states after the batch become those before the next. */
@@ -1224,6 +1250,34 @@ static void try_pecking(uint32_t operation)
     }
 }
 
+/*
+ * The currents are one memory, or overlap, and the blocks lie in it too: the
+ * bytes there are made 0 and 1, or all 0, and so are currents as well. Some are
+ * left as they are, and are mostly refused.
+ */
+static void try_shared(uint32_t operation)
+{
+    enum { SLACK = 32 };
+    static uint8_t bytes[CAPACITY];
+    for (uint32_t round = 0; round < effort(operation, 400); round++) {
+        size_t ticks = (size_t)between(1, one_in(4) ? 400 : 60);
+        random_batch(operation, ticks + SLACK / 4);
+        set_ticks(ticks);
+        memcpy(bytes, batch.bytes[L1], 4 * ticks + SLACK);
+        size_t places[] = {0, 0, 0, (size_t)below(3 * ticks + 1)};
+        if (one_in(2))
+            for (enum slice phase = L1; phase <= L3; phase++)
+                places[phase] = (size_t)below(SLACK + 1);
+        uint64_t blocks = below(5);
+        for (size_t i = 0; i < ticks && blocks > 0; i++)
+            bytes[places[BLOCK] + i] = blocks < 3 ? 0 : (uint8_t)below(2);
+        for (enum slice i = L1; i <= BLOCK; i++)
+            memcpy(batch.bytes[i], bytes + places[i], batch.length[i]);
+        lend_shared(bytes, 4 * ticks + SLACK, places);
+        try_lent(SHARED);
+    }
+}
+
 /* ---- The report ---- */
 
 static void say_refusals(void)
@@ -1300,6 +1354,8 @@ static void try_all(void)
         try_pecking(operation);
         try_long_decay(operation);
     }
+    for (uint32_t operation = 0; operation < OPERATIONS; operation++)
+        try_shared(operation);
 }
 
 int main(void)

@@ -43,6 +43,13 @@ recording("iec_dips.csv", "3,200,5,40,40,60,0", [(400, 40000, 0, 0, 0), (59, 0, 
 recording("ansi_dips.csv", "9,200,5,40,40,60,0", [(60, 80000, 0, 0, 0), (300, 0, 0, 0, 0), (70, 80000, 0, 0, 0), (1500, 0, 0, 0, 0), (110, 80000, 0, 0, 0)])
 # A trip on L2 that is blocked for a while: the phase trips all the same, the general trip waits for the block.
 recording("blocked_trip.csv", "1,200,100,40,50,60,0", [(70, 0, 30000, 0, 1), (10, 0, 30000, 0, 0), (5, 0, 0, 0, 0)])
+# A block that goes off while the relay counts: the sum has grown under it.
+recording("blocked_curve.csv", "3,200,5,40,40,60,0", [(100, 100000, 0, 0, 1), (200, 100000, 0, 0, 0), (10, 0, 0, 0, 0)])
+# Just above the setting: m is 100 up to 20199, and 101 from 20200 on.
+recording("just_above.csv", "1,200,100,40,40,60,0", [
+    (20, 20001, 0, 0, 0), (20, 20100, 0, 0, 0), (20, 20199, 0, 0, 0), (50, 20200, 0, 0, 0), (10, 0, 0, 0, 0)])
+# IEC Inv at four times the setting, all the time.
+recording("four_times.csv", "2,200,5,40,40,60,0", [(280, 80000, 0, 0, 0), (10, 0, 0, 0, 0)])
 # A motor feeder that chatters around the setting, between 101 % and 96 % of it, and then falls to just below 95 %.
 recording("chatter.csv", "1,200,100,40,100,60,0", 15 * [(6, 20200, 0, 0, 0), (4, 19200, 0, 0, 0)] + [(10, 18999, 0, 0, 0)])
 # A pecking fault: bursts of 30 ticks, and dips of 20, 20 (at 97 % but for its first tick), 59 and 60 with a reset time of 60.

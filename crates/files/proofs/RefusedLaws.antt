@@ -18,8 +18,7 @@ use Rattle.faults.proofs.RightLaws.{Faulty, wrong-faulty}
 use Rattle.text.proofs.CutLaws.{lines-cons, lines-nil, last-line}
 use Rattle.rows.specs.declared.refusal.Refusal.{Refusal}
 use Rattle.rows.specs.Refusal.{misshapen}
-use Rattle.rows.specs.Row.{rowWidths}
-use Rattle.rows.specs.SettingsLine.{settingsWidths}
+use Rattle.rows.specs.Widths.{rowWidths, settingsWidths}
 use Rattle.rows.proofs.RowLaws.{row-misshapen}
 use Rattle.rows.proofs.SettingsLineLaws.{settings-misshapen}
 use Rattle.rows.proofs.FrontLaws.{long-faulty, row-front, settings-front}
@@ -76,7 +75,7 @@ misshapen-stops p l h = stops-by (p .stage) p l refl h
 front-by : (g : Stage) (p : Progress) (l more : List ℕ) → lineLimit ≤ length l → afterBy g p (l ++ more) ≡ afterBy g p l
 unfolding afterBy
 front-by Opening p l more h = ap (opened p) (settings-front l more (omega (arith, h)))
-front-by Running p l more h = ap (stepped p) (row-front l more (p .done) (omega (arith, h)))
+front-by Running p l more h = ap (stepped p) (row-front l more (omega (arith, h)) (p .done))
 front-by (Stopped x) p l more h = refl
 
 front-after : (p : Progress) (l more : List ℕ) → lineLimit ≤ length l → afterLine p (l ++ more) ≡ afterLine p l

@@ -17,7 +17,8 @@ use Rattle.steps.specs.declared.output.Form.the-variants.{Changes, Record}
 use Rattle.steps.specs.declared.progress.Progress.{Progress}
 use Rattle.faults.specs.declared.fault.Shape.the-variants.{Wrong}
 use Rattle.text.specs.Line.{numbersOf}
-use Rattle.rows.specs.SettingsLine.{settingsWidths, settingsIn, settingsLineRefusal, settingsLineAnswer}
+use Rattle.rows.specs.SettingsLine.{settingsIn, settingsLineRefusal, settingsLineAnswer}
+use Rattle.rows.specs.Widths.{settingsWidths}
 use Rattle.steps.specs.Configuration.{lastRefusal}
 use Rattle.steps.specs.Output.{endLine}
 use Rattle.text.specs.declared.lines.Closer.the-variants.{CrLf}

@@ -24,7 +24,8 @@ use Rattle.faults.proofs.RightLaws.{right-faultless}
 use Rattle.rows.specs.declared.row.RowRead.the-variants.{Accepted}
 use Rattle.rows.specs.declared.front.Field.{Field}
 use Rattle.rows.specs.declared.front.Front.{Front}
-use Rattle.rows.specs.Row.{rowWidths, rowOf, blockRefusal, rowAnswer}
+use Rattle.rows.specs.Row.{rowOf, blockRefusal, rowAnswer}
+use Rattle.rows.specs.Widths.{rowWidths}
 use Rattle.rows.specs.device.Front.{frontRoom, fieldFrom, fieldsFrom, noFront, nextFront, frontAnswer}
 use Rattle.rows.proofs.NumberedLaws.{numbered-rest}
 use Rattle.rows.proofs.FrontReading.{field-near}

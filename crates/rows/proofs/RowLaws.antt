@@ -18,21 +18,18 @@ use Rattle.text.specs.Line.{numbersOf, fitsIn}
 use Rattle.faults.specs.Fault.{shapeOf}
 use Rattle.faults.specs.Reader.{lineAnswer}
 use Rattle.text.specs.Decimals.{decimals, lineOf}
-use Rattle.faults.specs.device.Calls.{Readable}
 use Rattle.relay.specs.Refusals.{wrongBlock}
 use Rattle.rows.specs.declared.refusal.Refusal.{Refusal}
 use Rattle.rows.specs.Refusals.{wrongNumber}
 use Rattle.rows.specs.Refusal.{misshapen, withoutPlace}
-use Rattle.rows.specs.Row.{lastRow, largestCurrent, rowWidths, rowOf, blockRefusal, rowRefusal, rowAnswer, rowNumbers}
+use Rattle.rows.specs.Row.{lastRow, largestCurrent, rowOf, blockRefusal, rowRefusal, rowAnswer, rowNumbers}
+use Rattle.rows.specs.Widths.{rowWidths}
 use Rattle.checks.proofs.Cases.{by-cond}
 use Rattle.rows.proofs.AnswerNumbers.{flaw-refused, answer-numbers, answer-refused}
 use Rattle.rows.proofs.NumberedLaws.{numbered-misshapen, numbered-rest, numbered-none, numbered-passed, read-shape, read-at, read-fits, read-number, read-rest}
 use Rattle.faults.proofs.RightLaws.{right-faultless, faultless-shape}
 use Rattle.text.proofs.ShapeLaws.{shape-least, number-below, fits-none, fits-decimal}
 use Rattle.text.proofs.DecimalsLaws.{line-shaped, line-numbers}
-
-pub row-readable : Readable rowWidths
-row-readable = record { some = omega arith; few = omega arith; each = refl }
 
 -- ---- the answer, by the tests
 

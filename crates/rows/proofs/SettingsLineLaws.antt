@@ -15,7 +15,7 @@ use Rattle.faults.specs.declared.fault.Shape.the-variants.{Right, Wrong}
 use Rattle.faults.specs.declared.reader.Line.{Line}
 use Rattle.rows.specs.declared.settings_line.SettingsRead.{SettingsRead}
 use Rattle.rows.specs.declared.settings_line.SettingsRead.the-variants.{Accepted, Refused}
-use Rattle.text.specs.Line.{rightShape, numbersOf}
+use Rattle.text.specs.Line.{endsCrLf, rightShape, numbersOf}
 use Rattle.faults.specs.Fault.{shapeOf}
 use Rattle.faults.specs.Reader.{lineAnswer}
 use Rattle.faults.specs.device.Calls.{Readable}
@@ -23,7 +23,8 @@ use Rattle.rows.specs.declared.refusal.Hint.the-variants.{None}
 use Rattle.rows.specs.declared.refusal.Refusal.{Refusal}
 use Rattle.rows.specs.Refusals.{noDigit}
 use Rattle.rows.specs.Refusal.{misshapen, withoutPlace, accepted, lineRefusal}
-use Rattle.rows.specs.SettingsLine.{settingsWidths, settingsIn, settingsLineRefusal, settingsLineAnswer, settingsLineNumbers}
+use Rattle.rows.specs.SettingsLine.{settingsIn, settingsLineRefusal, settingsLineAnswer, settingsLineNumbers}
+use Rattle.rows.specs.Widths.{settingsWidths}
 use Rattle.rows.proofs.AnswerNumbers.{flaw-refused, no-refusal, answer-numbers, answer-refused}
 use Rattle.rows.proofs.NumberedLaws.{line-passed}
 use Rattle.faults.proofs.LineLaws.{line-shape, line-number}
@@ -43,6 +44,7 @@ settings-none s e = no-refusal (length settingsWidths) (shapeOf settingsWidths s
 
 -- a line of no bytes: "an empty input is one with no digit", at its end, in the first field
 pub settings-empty : settingsLineRefusal [] ≡ record { number = noDigit; offset = 0; field = 1; hint = None }
+unfolding rightShape endsCrLf
 settings-empty = settings-by [] (Wrong (record { flaw = NoDigit; offset = 0; field = 1 })) (empty-line settingsWidths (omega arith))
 
 -- both clauses of the reader's contract

@@ -1,4 +1,5 @@
 pub mod Refusals
+pub mod Widths
 pub mod Refusal
 pub mod Numbered
 pub mod Row

@@ -1,6 +1,6 @@
 -- A data row (01, 'Rows and the replay program').
 use mathlib.Core.Bool.{cond}
-use mathlib.Core.List.{List, [], _∷_}
+use mathlib.Core.List.{List}
 use Prim.Native.Nat.{ℕ}
 use lib.Dec.{leb, eqb}
 use lib.ListN.{getD}
@@ -11,11 +11,8 @@ use Rattle.relay.specs.Refusals.{wrongBlock}
 use Rattle.rows.specs.declared.refusal.Refusal.{Refusal}
 use Rattle.rows.specs.Refusal.{accepted}
 use Rattle.rows.specs.Numbered.{numberedRefusal}
+use Rattle.rows.specs.Widths.{rowWidths}
 use Rattle.text.specs.Line.{numbersOf}
-
--- "number, timestamp, L1, L2, L3, block": "Digits only, at most 6, 10, 7, 7, 7 and 1 of them"
-abbrev pub rowWidths : List ℕ
-rowWidths = 6 ∷ 10 ∷ 7 ∷ 7 ∷ 7 ∷ 1 ∷ []
 
 -- the largest number of six digits
 abbrev pub lastRow : ℕ

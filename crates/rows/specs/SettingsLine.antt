@@ -1,6 +1,6 @@
 -- The settings line (01, 'Rows and the replay program').
 use mathlib.Core.Bool.{cond}
-use mathlib.Core.List.{List, [], _∷_}
+use mathlib.Core.List.{List}
 use Prim.Native.Nat.{ℕ}
 use lib.Dec.{eqb}
 use lib.ListN.{length, getD}
@@ -10,12 +10,9 @@ use Rattle.rows.specs.declared.settings_line.SettingsRead.{SettingsRead}
 use Rattle.rows.specs.declared.settings_line.SettingsRead.the-variants.{Accepted, Refused}
 use Rattle.rows.specs.declared.refusal.Refusal.{Refusal}
 use Rattle.rows.specs.Refusal.{accepted, lineRefusal}
+use Rattle.rows.specs.Widths.{settingsWidths}
 use Rattle.text.specs.Line.{numbersOf}
 use Rattle.faults.specs.Fault.{shapeOf}
-
--- "The settings line holds the seven settings the same way, 1 to 5 digits each."
-abbrev pub settingsWidths : List ℕ
-settingsWidths = 5 ∷ 5 ∷ 5 ∷ 5 ∷ 5 ∷ 5 ∷ 5 ∷ []
 
 -- the settings of a line's numbers
 abbrev pub settingsIn : List ℕ → Settings

@@ -4,6 +4,7 @@ mod refusal;
 pub mod refusals;
 mod row;
 mod settings_line;
+mod widths;
 
 pub use front::Front;
 pub use front::read_front;

@@ -1,21 +1,27 @@
 // What a line is refused with.
 ghost use mathlib.Core.Path.{_≡_};
-ghost use Rattle.rows.specs.Refusal.{flawNumber, hasMark, lfForCrLf, hintOf, misshapen, withoutPlace};
+ghost use Rattle.rows.specs.Refusal.{flawNumber, hasMark, lfForCrLf, semicolonAt, rowForSettings, hintOf, misshapen, withoutPlace};
 use crate::refusals::DIGIT_TOO_MANY;
 use crate::refusals::FIELD_COUNT;
 use crate::refusals::LINE_END;
 use crate::refusals::NO_DIGIT;
 use crate::refusals::STRAY_BYTE;
+use crate::widths::SETTINGS_FIELDS;
+use crate::widths::read_as_row;
 use faults::fault::Fault;
 use faults::fault::Flaw;
+use faults::fault::Shape;
 use faults::reader::byte_at;
 use faults::reader::is_digit;
 
-// What a person is told beside the place: that LF stands where CR LF is due, or that the line begins with a byte order mark.
+// What a person is told beside the place: that LF stands where CR LF is due, that the line begins with a byte order mark, that a
+// semicolon stands where a comma is due, or that the line may be data row 1, where the settings line is due.
 pub enum Hint {
     None,
     LineFeed,
     ByteOrderMark,
+    Semicolon,
+    DataRow,
 }
 
 // The number; of a wrong shape the byte offset in the line and the field, counted from 1, else 0 and 0.
@@ -55,6 +61,29 @@ fn is_lf_for_cr_lf(line: &[u8], fault: Fault, fields: usize) -> bool
     (byte_at(line, fault.offset) == b'\n') & ((fault.field == fields) & is_digit(before))
 }
 
+fn is_semicolon(line: &[u8], fault: Fault) -> bool
+    ensures { λ r. ⌜ r ≡ semicolonAt (now (line .entry)) fault ⌝ }
+{
+    byte_at(line, fault.offset) == b';'
+}
+
+fn is_row_for_settings(line: &[u8], fields: usize) -> bool
+    ensures { λ r. ⌜ r ≡ rowForSettings fields (now (line .entry)) ⌝ }
+{
+    if fields != SETTINGS_FIELDS {
+        return false;
+    }
+    let row = read_as_row(line);
+    let shape = row.shape;
+    match shape {
+        Shape::Right => {
+            let n = row.numbers;
+            n[0] == 1
+        }
+        Shape::Wrong(_) => false,
+    }
+}
+
 fn hint_at(line: &[u8], fault: Fault, fields: usize) -> Hint
     ensures { λ r. ⌜ r ≡ hintOf fields (now (line .entry)) fault ⌝ }
 {
@@ -63,6 +92,12 @@ fn hint_at(line: &[u8], fault: Fault, fields: usize) -> Hint
     }
     if has_mark(line) {
         return Hint::ByteOrderMark;
+    }
+    if is_semicolon(line, fault) {
+        return Hint::Semicolon;
+    }
+    if is_row_for_settings(line, fields) {
+        return Hint::DataRow;
     }
     Hint::None
 }

@@ -5,8 +5,9 @@ use crate::refusal::Refusal;
 use crate::refusal::refuse;
 use crate::refusal::refuse_shape;
 use crate::refusals::WRONG_NUMBER;
+use crate::widths::ROW_FIELDS;
+use crate::widths::read_as_row;
 use faults::fault::Shape;
-use faults::reader::read_line;
 use relay::refusals::WRONG_BLOCK;
 
 pub struct Row {
@@ -27,11 +28,10 @@ pub fn read_row(row: &[u8], last: u32) -> RowRead
     ensures answer { λ r. ⌜ r ≡ rowAnswer (now (row .entry)) last ⌝ }
     ensures numbers { λ r. ⌜ rowNumbers r ≡ rowRefusal (now (row .entry)) last ⌝ }
 {
-    let widths = [6usize, 10, 7, 7, 7, 1];
-    let line = read_line(row, &widths);
+    let line = read_as_row(row);
     let shape = line.shape;
     if let Shape::Wrong(fault) = shape {
-        return RowRead::Refused(refuse_shape(row, fault, widths.len()));
+        return RowRead::Refused(refuse_shape(row, fault, ROW_FIELDS));
     }
     let n = line.numbers;
     if n[0] != last as u64 + 1 {

@@ -4,6 +4,7 @@ ghost use Rattle.rows.specs.SettingsLine.{settingsLineRefusal, settingsL
 use crate::refusal::Refusal;
 use crate::refusal::refuse;
 use crate::refusal::refuse_shape;
+use crate::widths::SETTINGS_FIELDS;
 use faults::fault::Shape;
 use faults::reader::read_line;
 use phase::Settings;
@@ -22,7 +23,7 @@ pub fn read_settings_line(line: &[u8]) -> SettingsRead
     let l = read_line(line, &widths);
     let shape = l.shape;
     if let Shape::Wrong(fault) = shape {
-        return SettingsRead::Refused(refuse_shape(line, fault, widths.len()));
+        return SettingsRead::Refused(refuse_shape(line, fault, SETTINGS_FIELDS));
     }
     let n = l.numbers;
     let settings = Settings {

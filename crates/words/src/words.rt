@@ -56,6 +56,8 @@ pub(crate) fn say_hint(hint: Hint) -> usize {
         Hint::None => 0,
         Hint::LineFeed => say(b"; the file seems to have LF line ends, where CR LF is due"),
         Hint::ByteOrderMark => say(b"; the line begins with a byte order mark"),
+        Hint::Semicolon => say(b"; a semicolon stands where a comma is due"),
+        Hint::DataRow => say(b"; this looks like data row 1: is the settings line missing?"),
     }
 }
 

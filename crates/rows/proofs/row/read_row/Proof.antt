@@ -5,22 +5,19 @@ use Prim.Native.Nat.{ℕ, _^_, _<_}
 use native.Mathlib.Omega.{arith}
 use lib.ListN.{length, getD}
 use Rattle.rows.specs.declared.row.RowRead.the-variants.{Refused}
-use Rattle.rows.specs.Row.{rowWidths}
-use Rattle.rows.proofs.RowLaws.{row-readable, row-fits, row-shape, row-number, row-block, row-accepted, row-told}
+use Rattle.rows.specs.Widths.{rowWidths}
+use Rattle.rows.proofs.RowLaws.{row-fits, row-shape, row-number, row-block, row-accepted, row-told}
 use borrow.Author.Needs.{needs}
 use Rattle.rows.proofs.row.read_row.Statement.{statement}
 use Rattle.rows.proofs.row.read_row.Tie as tie
 use Rattle.rows.proofs.row.read_row.Lts as lts
 use Rattle.rows.proofs.row.read_row.Reads as reads
-use Rattle.faults.proofs.reader.read_line.Reads as line
+use Rattle.rows.proofs.widths.read_as_row.Reads as line
 use Rattle.rows.proofs.refusal.refuse.Reads as refuse
 use Rattle.rows.proofs.refusal.refuse_shape.Reads as refuse-shape
 
-slice-aggregate-read-line : tie.Need-slice-aggregate-read-line
-slice-aggregate-read-line c = search needs
-
-read-line-requires : tie.Need-read-line-requires
-read-line-requires c κs = row-readable
+read-as-row-requires : tie.Need-read-as-row-requires
+read-as-row-requires c κs = search needs
 
 enum-known-shape : tie.Need-enum-known-shape
 enum-known-shape c = search needs
@@ -30,8 +27,8 @@ refuse-shape-requires c κs = search needs
 
 returns : tie.Need-returns
 returns c =
-    let a = c .before .before .before .before .before .before .before .args in
-    let l = c .before .before .before .before .read-line in
+    let a = c .before .before .before .before .before .before .args in
+    let l = c .before .before .before .before .read-as-row in
     row-told _ (a .row .now) (a .last) (ap Refused (c .refuse-shape .ensures) ∙ row-shape (a .row .now) (a .last) (l .result) (l .ensures) _ (c .before .before .shape .given .1))
 
 enum-told : tie.Need-enum-told
@@ -48,8 +45,8 @@ refuse-requires c κs = search needs
 
 returns-2 : tie.Need-returns-2
 returns-2 c =
-    let a = c .before .before .before .before .before .before .before .before .args in
-    let l = c .before .before .before .before .before .read-line in
+    let a = c .before .before .before .before .before .before .before .args in
+    let l = c .before .before .before .before .before .read-as-row in
     row-told _ (a .row .now) (a .last) (ap Refused (c .refuse .ensures) ∙ row-number (a .row .now) (a .last) (l .result) (l .ensures) (c .before .before .before .enum-told .given .1) (c .before .if1 .taken))
 
 array-read-if2 : tie.Need-array-read-if2
@@ -60,60 +57,59 @@ refuse-requires-2 c κs = search needs
 
 returns-3 : tie.Need-returns-3
 returns-3 c =
-    let a = c .before .before .before .before .before .before .before .before .before .args in
-    let l = c .before .before .before .before .before .before .read-line in
+    let a = c .before .before .before .before .before .before .before .before .args in
+    let l = c .before .before .before .before .before .before .read-as-row in
     row-told _ (a .row .now) (a .last) (ap Refused (c .refuse2 .ensures) ∙ row-block (a .row .now) (a .last) (l .result) (l .ensures) (c .before .before .before .before .enum-told .given .1) (c .before .before .if1 .left) (c .before .if2 .taken))
 
-array-read-t14 : tie.Need-array-read-t14
-array-read-t14 c = search needs
+array-read-t11 : tie.Need-array-read-t11
+array-read-t11 c = search needs
 
 -- the number of a field fits its width
 fits : (c : lts.Else2 (line.Asked, line.Learnt, refuse-shape.Asked, refuse-shape.Learnt, refuse.Asked, refuse.Learnt) reads.Pre reads.Post) (k : ℕ) → k < length rowWidths
-    → getD (c .before .before .before .before .before .read-line .result .numbers) k 0 < 10 ^ getD rowWidths k 0
+    → getD (c .before .before .before .before .before .read-as-row .result .numbers) k 0 < 10 ^ getD rowWidths k 0
 fits c =
-    let a = c .before .before .before .before .before .before .before .before .args in
-    let l = c .before .before .before .before .before .read-line in
+    let a = c .before .before .before .before .before .before .before .args in
+    let l = c .before .before .before .before .before .read-as-row in
     row-fits (a .row .now) (a .last) (l .result) (l .ensures) (c .before .before .before .enum-told .given .1)
 
-cast-t23 : tie.Need-cast-t23
-cast-t23 c = omega (arith, fits c 0 (omega arith))
+cast-t20 : tie.Need-cast-t20
+cast-t20 c = omega (arith, fits c 0 (omega arith))
 
-array-read-t15 : tie.Need-array-read-t15
-array-read-t15 c = search needs
+array-read-t12 : tie.Need-array-read-t12
+array-read-t12 c = search needs
+
+cast-t23 : tie.Need-cast-t23
+cast-t23 c = omega (arith, fits c 2 (omega arith))
+
+array-read-t10 : tie.Need-array-read-t10
+array-read-t10 c = search needs
 
 cast-t26 : tie.Need-cast-t26
-cast-t26 c = omega (arith, fits c 2 (omega arith))
+cast-t26 c = omega (arith, fits c 3 (omega arith))
 
-array-read-t13 : tie.Need-array-read-t13
-array-read-t13 c = search needs
+array-read-t29 : tie.Need-array-read-t29
+array-read-t29 c = search needs
 
-cast-t29 : tie.Need-cast-t29
-cast-t29 c = omega (arith, fits c 3 (omega arith))
+cast-t30 : tie.Need-cast-t30
+cast-t30 c = omega (arith, fits c 4 (omega arith))
 
-array-read-t32 : tie.Need-array-read-t32
-array-read-t32 c = search needs
+array-read-t33 : tie.Need-array-read-t33
+array-read-t33 c = search needs
 
-cast-t33 : tie.Need-cast-t33
-cast-t33 c = omega (arith, fits c 4 (omega arith))
-
-array-read-t36 : tie.Need-array-read-t36
-array-read-t36 c = search needs
-
-cast-t37 : tie.Need-cast-t37
-cast-t37 c = search needs
+cast-t34 : tie.Need-cast-t34
+cast-t34 c = search needs
 
 returns-4 : tie.Need-returns-4
 returns-4 c =
-    let a = c .before .before .before .before .before .before .before .before .args in
-    let l = c .before .before .before .before .before .read-line in
+    let a = c .before .before .before .before .before .before .before .args in
+    let l = c .before .before .before .before .before .read-as-row in
     row-told _ (a .row .now) (a .last) (row-accepted (a .row .now) (a .last) (l .result) (l .ensures) (c .before .before .before .enum-told .given .1) (c .before .if1 .left) (c .if2 .left))
 
 pub read-row-spec : {M : Type 1} → statement M
 read-row-spec =
     tie.close
     (tie.spec
-    slice-aggregate-read-line
-    read-line-requires
+    read-as-row-requires
     enum-known-shape
     refuse-shape-requires
     returns
@@ -125,14 +121,14 @@ read-row-spec =
     array-read-if2
     refuse-requires-2
     returns-3
-    array-read-t14
+    array-read-t11
+    cast-t20
+    array-read-t12
     cast-t23
-    array-read-t15
+    array-read-t10
     cast-t26
-    array-read-t13
-    cast-t29
-    array-read-t32
-    cast-t33
-    array-read-t36
-    cast-t37
+    array-read-t29
+    cast-t30
+    array-read-t33
+    cast-t34
     returns-4)

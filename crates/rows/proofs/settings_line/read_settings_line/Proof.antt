@@ -5,7 +5,7 @@ use Prim.Native.Nat.{ℕ, _^_, _<_}
 use native.Mathlib.Omega.{arith}
 use lib.ListN.{length, getD}
 use Rattle.rows.specs.declared.settings_line.SettingsRead.the-variants.{Refused}
-use Rattle.rows.specs.SettingsLine.{settingsWidths}
+use Rattle.rows.specs.Widths.{settingsWidths}
 use Rattle.rows.proofs.SettingsLineLaws.{settings-readable, settings-fits, settings-shape, settings-checked, settings-accepted, settings-told}
 use borrow.Author.Needs.{needs}
 use Rattle.rows.proofs.settings_line.read_settings_line.Statement.{statement}
