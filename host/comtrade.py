@@ -1,5 +1,8 @@
 #!/usr/bin/env python3
-"""Opens a pair of files NAME.cfg and NAME.dat as a viewer of COMTRADE does, by the rules of IEEE C37.111-1999 for ASCII files.
+"""Opens a pair of files NAME.cfg and NAME.dat as a viewer of COMTRADE does, by the rules of IEEE C37.111-1999 for ASCII files, but for
+one: values may have seven digits, where the standard has five.
+
+    host/comtrade.py NAME
 
 It writes what a viewer shows: the station and the device, a line for each channel, and for each sample its number, its time in
 seconds, the analogue values in their unit and the status values. Where a file breaks a rule it says so and ends with 1.
@@ -20,9 +23,9 @@ def need(holds, rule):
 
 
 def lines_of(name):
-    """each line is closed by CR LF, and nothing stands after the last"""
+    """each line is closed by CR LF, and nothing but a mark for the end of the file stands after the last"""
     with open(name, "rb") as file:
-        text = file.read().decode("ascii")
+        text = file.read().decode("ascii").removesuffix("\x1a")
     need(text.endswith("\r\n"), f"{name} does not end with CR LF")
     lines = text[:-2].split("\r\n")
     need(not any("\r" in line or "\n" in line for line in lines), f"{name} has a CR or an LF by itself")
@@ -47,8 +50,12 @@ def words(text, most, what):
 
 def moment(line, what):
     """dd/mm/yyyy,hh:mm:ss.ssssss"""
+    line = ",".join(field.strip() for field in line.split(","))
     need(re.fullmatch(r"\d\d?/\d\d?/\d{4},\d\d:\d\d:\d\d\.\d{6}", line), f"{what} is no date and time: '{line}'")
-    return datetime.datetime.strptime(line, "%d/%m/%Y,%H:%M:%S.%f")
+    try:
+        return datetime.datetime.strptime(line, "%d/%m/%Y,%H:%M:%S.%f")
+    except ValueError:
+        raise Broken(f"{what} is not in the calendar: '{line}'") from None
 
 
 class Lines:
@@ -134,7 +141,11 @@ def main(name):
         print(",".join([str(number), f"{time:.3f}", *(f"{value:.2f}" for value in shown), *states]))
 
 
+if len(sys.argv) != 2:
+    sys.exit("usage: host/comtrade.py NAME")
 try:
     main(sys.argv[1])
+except BrokenPipeError:
+    sys.exit(2)
 except (Broken, OSError, UnicodeDecodeError) as fault:
     sys.exit(f"not a pair of COMTRADE files: {fault}")

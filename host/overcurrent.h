@@ -25,10 +25,11 @@
  * memory may run at the same time, on several threads or in an interrupt; on the
  * same out or states one at a time. A batch is not atomic: while it runs nobody
  * else writes to any of its slices, and whoever reads out or states may see them
- * half done. A bare interrupt handler that calls the archive saves xmm0 to xmm15
- * and leaves alone the 128 bytes below the interrupted stack pointer, as before any
- * function of this convention. The proofs speak of one call by itself; `host/run`
- * fails where the archive has data that changes, locks or calls the system.
+ * half done. A bare interrupt handler that calls the archive aligns the stack to
+ * 16 bytes, saves xmm0 to xmm15 and leaves alone the 128 bytes below the
+ * interrupted stack pointer, as before any function of this convention. The proofs
+ * speak of one call by itself; `host/run` fails where the archive has data that
+ * changes, locks or calls the system.
  */
 #ifndef OVERCURRENT_H
 #define OVERCURRENT_H

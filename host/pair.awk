@@ -1,4 +1,4 @@
-# The configuration of a record (COMTRADE 1999, ASCII), for `./bench record --pair`. It reads the record's rows; given are
+# The configuration of a record (COMTRADE 1999, ASCII), for `./bench record --pair`. It reads the record's rows; the environment has
 #   config     the file of the recorder's own configuration, which was accepted, or nothing
 #   frequency  in Hz, or nothing
 # A record's currents are in 0.01 % of rated current, so the factor 0.01 gives %.
@@ -7,7 +7,7 @@ function line(text) {
 }
 
 # what the recorder says of itself: station and device, frequency, the times of the first sample and of the trigger
-function read_config(    text, n, part) {
+function read_config(config,    text, n, part) {
     while ((getline text <config) > 0) {
         sub(/\r$/, "", text)
         n++
@@ -31,10 +31,10 @@ BEGIN {
     device = "device and dates not given"
     hertz = "50"
     first = trigger = "01/01/1900,00:00:00.000000"
-    if (config != "")
-        read_config()
-    if (frequency != "")
-        hertz = frequency
+    if (ENVIRON["config"] != "")
+        read_config(ENVIRON["config"])
+    if (ENVIRON["frequency"] != "")
+        hertz = ENVIRON["frequency"]
     largest = 99998 # of the standard; this league's rows have seven digits
 }
 

@@ -89,17 +89,16 @@ static bool is_row_1(void)
 static const char *fault_hint(void)
 {
     const char *line = text + fault.line;
-    unsigned last_field = fault.row == 0 ? 7 : 6;
     if (fault.row == 0 && is_row_1())
         return "; this looks like data row 1: is the settings line missing?";
     if (fault.refusal != STRAY_BYTE)
         return "";
-    if (line[fault.byte] == '\n' && fault.field == last_field && is_digit(line[fault.byte - 1]))
+    if (line[fault.byte] == '\n' && fault.byte > 0 && is_digit(line[fault.byte - 1]))
         return "; the file seems to have LF line ends, where CR LF is due";
     if (used - fault.line >= 3 && memcmp(line, "\xef\xbb\xbf", 3) == 0)
         return "; the line begins with a byte order mark";
     if (line[fault.byte] == ';')
-        return "; a semicolon stands where a comma is due";
+        return "; a semicolon stands here, where fields are parted by commas";
     return "";
 }
 

@@ -184,10 +184,10 @@ static struct {
     const char *words, *hint;
 } place;
 
-/* "a line feed where CR LF was due": after the digits of the last field */
+/* "a line feed where CR LF was due": right after a digit */
 static bool lf_for_cr_lf(const struct line *line, size_t at)
 {
-    return byte_is(line, at, '\n') && field_at(line, at) == line->fields && digits_before(line, at) > 0;
+    return byte_is(line, at, '\n') && digits_before(line, at) > 0;
 }
 
 static const char *hint_of(const struct line *line, size_t at)
@@ -198,7 +198,7 @@ static const char *hint_of(const struct line *line, size_t at)
     if (line->length >= sizeof mark && memcmp(line->bytes, mark, sizeof mark) == 0)
         return "; the line begins with a byte order mark";
     if (byte_is(line, at, ';'))
-        return "; a semicolon stands where a comma is due";
+        return "; a semicolon stands here, where fields are parted by commas";
     return "";
 }
 
@@ -342,7 +342,7 @@ static void write_record_row(unsigned number, const uint32_t g[3], uint8_t out)
     printf("\r\n");
 }
 
-enum form { REPLAY, RECORD, EXPLAIN };
+enum form { REPLAY, RECORD, EXPLAIN, EXPLAIN_ALL };
 
 /*
  * What is written, and of the rows up to which; of the last one alone for an explanation.
@@ -374,7 +374,7 @@ static uint32_t replay_rows(const struct plain_settings *set, struct asked asked
             write_record_row(*rows_done, row.g, out);
         else if (asked.form == REPLAY && out != before)
             printf("%u,%u\n", (unsigned)*rows_done, (unsigned)out);
-        else if (asked.form == EXPLAIN && *rows_done == asked.last_row)
+        else if (asked.form == EXPLAIN_ALL || (asked.form == EXPLAIN && *rows_done == asked.last_row))
             write_explanation(set, phases, &row);
         before = out;
     }
@@ -470,10 +470,12 @@ int main(int count, char **words)
 {
     const char *form = count > 1 ? words[1] : "";
     struct asked asked = {REPLAY, UINT32_MAX, NULL};
-    if (strcmp(form, "explain") == 0) {
+    if (strcmp(form, "explain") == 0 && count == 3 && strcmp(words[2], "--all") == 0) {
+        asked.form = EXPLAIN_ALL;
+    } else if (strcmp(form, "explain") == 0) {
         asked = (struct asked){EXPLAIN, count == 3 ? row_number(words[2]) : 0, NULL};
         if (asked.last_row == 0) {
-            fputs("failed: explain takes one row number, 1 to 999999\n", stderr);
+            fputs("failed: explain takes one row number, 1 to 999999, or --all\n", stderr);
             return 0; /* as the proved one, which has no status of its own */
         }
     } else if (count == 2 && strcmp(form, "record") == 0) {
@@ -481,7 +483,7 @@ int main(int count, char **words)
     } else if (count == 4 && strcmp(form, "replay") == 0 && strcmp(words[2], "--config") == 0) {
         asked.config = words[3];
     } else if (count != 2 || strcmp(form, "replay") != 0) {
-        fputs("usage: replay_plain replay [--config FILE]|record|explain ROW\n", stderr);
+        fputs("usage: replay_plain replay [--config FILE]|record|explain ROW|--all\n", stderr);
         return 2;
     }
     answer(asked);

@@ -35,7 +35,7 @@ use Rattle.rows.proofs.FrontRowLaws.{AtFront}
 use Rattle.rows.proofs.RowLaws.{accepted-row}
 use Rattle.steps.specs.declared.configuration.Configuration.{Configuration}
 use Rattle.steps.specs.declared.output.Form.{Form}
-use Rattle.steps.specs.declared.output.Form.the-variants.{Changes, Record, Explain}
+use Rattle.steps.specs.declared.output.Form.the-variants.{Changes, Record, Explain, ExplainAll}
 use Rattle.steps.specs.declared.progress.Progress.{Progress}
 use Rattle.steps.specs.declared.progress.Stage.{Stage}
 use Rattle.steps.specs.declared.progress.Stage.the-variants.{Opening, Running, Stopped}
@@ -154,6 +154,7 @@ is-changes : (form : Form) → writesChanges form ≡ true → form ≡ Changes
 is-changes Changes e = refl
 is-changes Record e = absurd (false≢true e)
 is-changes (Explain row) e = absurd (false≢true e)
+is-changes ExplainAll e = absurd (false≢true e)
 
 runs : (stage : Stage) → isRunning stage ≡ true → stage ≡ Running
 runs Opening e = absurd (false≢true e)
@@ -227,6 +228,7 @@ turn-ahead r p before i progress at out out' x turn ran =
     little-on Changes at wrote written i j begun h k e = omega arith
     little-on Record at wrote written i j begun h k e = omega arith
     little-on (Explain row) at wrote written i j begun h k e = omega arith
+    little-on ExplainAll at wrote written i j begun h k e = omega arith
 
 -- the room that the rest of a portion has
 pub turn-room : (r : Replay) (p before : List ℕ) (i : ℕ) (progress : Progress) (at : ℕ) (out : List ℕ) → FeedTurn r p before i (still (r .form) progress) at out → portionRoom (r .form) (r .cutter .count) (length p) ≤ length before → at + spread (r .form) * (length p - i) ≤ length out
@@ -236,3 +238,4 @@ turn-room r p before i progress at out turn h = rw (turn .long) (room-on (r .for
     room-on Changes at i begun total room h k e = omega arith
     room-on Record at i begun total room h k e = omega arith
     room-on (Explain row) at i begun total room h k e = omega arith
+    room-on ExplainAll at i begun total room h k e = omega arith

@@ -15,12 +15,12 @@ use Rattle.config.proofs.ConfigLaws.{config-of-calls}
 use Rattle.steps.specs.declared.configuration.Configuration.{Configuration}
 use Rattle.steps.specs.declared.configuration.Configuration.the-variants.{Absent, Given}
 use Rattle.steps.specs.declared.output.Form.{Form}
-use Rattle.steps.specs.declared.output.Form.the-variants.{Changes, Record, Explain}
+use Rattle.steps.specs.declared.output.Form.the-variants.{Changes, Record, Explain, ExplainAll}
 use Rattle.files.specs.declared.replay.Replay.{Replay}
 use Rattle.files.specs.declared.replay.Fed.{Fed}
 use Rattle.text.specs.Lines.{joined}
 use Rattle.steps.specs.Output.{spread, endRoom}
-use Rattle.files.specs.Replay.{Told, writtenFirst, toldOf, notesAndEnd, replayOf, configuredReplayOf, recordOf, explanationOf, longestLine, lineLimit, freshReplay, portionRoom, fed, writes, takes, fedBy, fedIf, feedAnswer, writesIf, feedWrites, endsWith, refusalAtEnd, finishIf, finishWrites}
+use Rattle.files.specs.Replay.{Told, writtenFirst, toldOf, notesAndEnd, replayOf, configuredReplayOf, recordOf, explanationOf, explanationsOf, longestLine, lineLimit, freshReplay, portionRoom, fed, writes, takes, fedBy, fedIf, feedAnswer, writesIf, feedWrites, endsWith, refusalAtEnd, finishIf, finishWrites}
 use Rattle.files.specs.device.Calls.{Sound}
 use Rattle.checks.proofs.Tests.{both-true, leb-iff}
 use Rattle.files.proofs.PortionLaws.{fed-form, fed-sound, fresh-sound, toldByPortions, told-of-portions}
@@ -32,18 +32,21 @@ held-less : (form : Form) (held read room : ℕ) → held < lineLimit → portio
 held-less Changes held read room h k = omega arith
 held-less Record held read room h k = omega arith
 held-less (Explain row) held read room h k = omega arith
+held-less ExplainAll held read room h k = omega arith
 
 -- nor does a smaller portion
 pub read-less : (form : Form) (held read most room : ℕ) → read ≤ most → portionRoom form held most ≤ room → portionRoom form held read ≤ room
 read-less Changes held read most room h k = omega arith
 read-less Record held read most room h k = omega arith
 read-less (Explain row) held read most room h k = omega arith
+read-less ExplainAll held read most room h k = omega arith
 
 -- the code divides the room in place of multiplying the bytes
 pub input-room : (form : Form) (bytes room : ℕ) → leb bytes (room / spread form) ≡ leb (spread form * bytes) room
 input-room Changes bytes room = leb-iff bytes (room / spread Changes) (spread Changes * bytes) room (λ h. omega arith) (λ h. omega arith)
 input-room Record bytes room = leb-iff bytes (room / spread Record) (spread Record * bytes) room (λ h. omega arith) (λ h. omega arith)
 input-room (Explain row) bytes room = leb-iff bytes (room / spread (Explain row)) (spread (Explain row) * bytes) room (λ h. omega arith) (λ h. omega arith)
+input-room ExplainAll bytes room = leb-iff bytes (room / spread ExplainAll) (spread ExplainAll * bytes) room (λ h. omega arith) (λ h. omega arith)
 
 module _ (r : Replay) (s : List ℕ) (room : ℕ) where
   module _ (e : takes (r .form) (r .cutter .count) (length s) room ≡ true) where
@@ -155,3 +158,7 @@ record-of-calls = notes-of-calls Record
 -- WHAT A STUDENT RELIES ON: and the same of the explanation of a row
 pub explanation-of-calls : (row : ℕ) (ps : List (List ℕ)) (room last : ℕ) → roomFor (Explain row) ps room ≡ true → handedOut (freshReplay (Explain row) Absent) ps room last .notes ≡ explanationOf row (joined ps)
 explanation-of-calls row = notes-of-calls (Explain row)
+
+-- and of the explanations of all rows
+pub explanations-of-calls : (ps : List (List ℕ)) (room last : ℕ) → roomFor ExplainAll ps room ≡ true → handedOut (freshReplay ExplainAll Absent) ps room last .notes ≡ explanationsOf (joined ps)
+explanations-of-calls = notes-of-calls ExplainAll

@@ -29,7 +29,7 @@ use Rattle.config.specs.Config.{configOf}
 use Rattle.steps.specs.declared.configuration.Configuration.{Configuration}
 use Rattle.steps.specs.declared.configuration.Configuration.the-variants.{Absent, Given}
 use Rattle.steps.specs.declared.output.Form.{Form}
-use Rattle.steps.specs.declared.output.Form.the-variants.{Changes, Record, Explain}
+use Rattle.steps.specs.declared.output.Form.the-variants.{Changes, Record, Explain, ExplainAll}
 use Rattle.steps.specs.declared.progress.Stage.{Stage}
 use Rattle.steps.specs.declared.progress.Stage.the-variants.{Opening, Running, Stopped}
 use Rattle.steps.specs.declared.progress.Progress.{Progress}
@@ -115,6 +115,7 @@ module _ (form : Form) (c : Configuration) where
   note-under Changes p x t = refl
   note-under Record p x t = refl
   note-under (Explain row) p x t = refl
+  note-under ExplainAll p x t = refl
 
   noted-under : (p : Progress) (answer : RowRead) → noted form (under c p) answer ≡ noted form (under Absent p) answer
   noted-under p (row.Accepted x) = ap (λ (w : List ℕ). cond (eqb (ticked p x .refusal) 0) w []) (note-under form p x (ticked p x))

@@ -16,7 +16,7 @@ use Rattle.text.specs.declared.cutter.PieceCut.{PieceCut}
 use Rattle.text.specs.Lines.{Cutting, oneMore, cuttingBy, cutSoFar, cutting}
 use Rattle.text.specs.Cutter.{heldRoom, emptyCutter, heldLine, heldAfter, cutterAfter, pieceAnswer}
 use Rattle.steps.specs.declared.output.Form.{Form}
-use Rattle.steps.specs.declared.output.Form.the-variants.{Changes, Record, Explain}
+use Rattle.steps.specs.declared.output.Form.the-variants.{Changes, Record, Explain, ExplainAll}
 use Rattle.steps.specs.declared.progress.Noted.{Noted}
 use Rattle.files.specs.declared.replay.Replay.{Replay}
 use Rattle.files.specs.declared.replay.Fed.{Fed}
@@ -116,12 +116,14 @@ room-left : (form : Form) (at held i begun total : ℕ) → at + spread form * h
 room-left Changes at held i begun total h k = omega arith
 room-left Record at held i begun total h k = omega arith
 room-left (Explain row) at held i begun total h k = omega arith
+room-left ExplainAll at held i begun total h k = omega arith
 
 line-fits : (form : Form) (at held count i next begun total : ℕ) → at + spread form * held ≤ spread form * (begun + i) → count + i ≡ held + next → next ≤ total
     → at + spread form * count ≤ spread form * (begun + total)
 line-fits Changes at held count i next begun total h e k = omega arith
 line-fits Record at held count i next begun total h e k = omega arith
 line-fits (Explain row) at held count i next begun total h e k = omega arith
+line-fits ExplainAll at held count i next begun total h e k = omega arith
 
 pub record FeedTurn (r : Replay) (p before : List ℕ) (i : ℕ) (s : Replay) (at : ℕ) (out : List ℕ) : Type 0 where
   pub within : i ≤ length p

@@ -10,7 +10,7 @@ use lib.ListN.{length, length-take}
 use borrow.Author.Tests.{leb-true, ltb-true, ltb-false}
 use Rattle.steps.specs.declared.configuration.Configuration.{Configuration}
 use Rattle.steps.specs.declared.output.Form.{Form}
-use Rattle.steps.specs.declared.output.Form.the-variants.{Changes, Record, Explain}
+use Rattle.steps.specs.declared.output.Form.the-variants.{Changes, Record, Explain, ExplainAll}
 use Rattle.steps.specs.declared.progress.Stage.{Stage}
 use Rattle.steps.specs.declared.progress.Stage.the-variants.{Stopped}
 use Rattle.steps.specs.declared.progress.Progress.{Progress}
@@ -190,6 +190,7 @@ answered-by : (form : Form) (p : Progress) (ls : List (List ℕ)) → isAnswered
 answered-by Changes p ls e = absurd (false≢true e)
 answered-by Record p ls e = absurd (false≢true e)
 answered-by (Explain row) p ls e = quiet-after row p ls (leb-true row (p .done) e)
+answered-by ExplainAll p ls e = absurd (false≢true e)
 
 pub answered-early : (r : Replay) (ps : List (List ℕ)) → Sound r → isAnswered (r .form) (r .progress .done) ≡ true → toldByPortions r ps .notes ≡ []
 unfolding left

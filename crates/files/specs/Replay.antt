@@ -16,7 +16,7 @@ use Rattle.rows.specs.declared.refusal.Refusal.{Refusal}
 use Rattle.steps.specs.declared.configuration.Configuration.{Configuration}
 use Rattle.steps.specs.declared.configuration.Configuration.the-variants.{Absent, Given}
 use Rattle.steps.specs.declared.output.Form.{Form}
-use Rattle.steps.specs.declared.output.Form.the-variants.{Changes, Record, Explain}
+use Rattle.steps.specs.declared.output.Form.the-variants.{Changes, Record, Explain, ExplainAll}
 use Rattle.steps.specs.declared.progress.Stage.{Stage}
 use Rattle.steps.specs.declared.progress.Stage.the-variants.{Opening, Running, Stopped}
 use Rattle.steps.specs.declared.progress.Progress.{Progress}
@@ -67,6 +67,10 @@ recordOf s = toldOf Record Absent s .notes
 -- WHAT THE PROGRAM `explain` WRITES for a row, of its whole input: the explanation of that row, where it is done
 abbrev pub explanationOf : ℕ → List ℕ → List ℕ
 explanationOf row s = toldOf (Explain row) Absent s .notes
+
+-- WHAT IT WRITES WHERE EVERY ROW IS ASKED FOR: the explanation of each row done
+abbrev pub explanationsOf : List ℕ → List ℕ
+explanationsOf s = toldOf ExplainAll Absent s .notes
 
 -- ---- a state: the form, the progress, and the cutter that holds the line that has begun
 
@@ -187,3 +191,4 @@ abbrev pub isAnswered : Form → ℕ → Bool
 isAnswered Changes done = false
 isAnswered Record done = false
 isAnswered (Explain row) done = leb row done
+isAnswered ExplainAll done = false

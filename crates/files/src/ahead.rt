@@ -135,6 +135,7 @@ fn writes_changes(form: Form) -> bool
         Form::Changes => true,
         Form::Record => false,
         Form::Explain(_) => false,
+        Form::ExplainAll => false,
     }
 }
 

@@ -137,6 +137,7 @@ fn input_for(form: Form, room: usize) -> usize
         Form::Changes => room,
         Form::Record => room / RECORD_SPREAD,
         Form::Explain(_) => room / EXPLAIN_SPREAD,
+        Form::ExplainAll => room / EXPLAIN_SPREAD,
     }
 }
 
@@ -152,7 +153,7 @@ fn takes_portion(form: Form, held: usize, portion: &[u8], room: usize) -> bool
 
 // Feeds a portion of the input: what it writes stands at the front of `out`, and the other bytes of `out` stay. An `out` with
 // LONGEST_LINE bytes more than the portion suffices for change lines, RECORD_SPREAD times as much for the record, and
-// EXPLAIN_SPREAD times as much for an explanation.
+// EXPLAIN_SPREAD times as much for explanations.
 pub fn feed(state: Replay, portion: &[u8], out: &mut [u8]) -> Fed
     ensures answer { λ r. do
       room ← ⟦out.len()⟧ .entry
@@ -236,5 +237,6 @@ pub fn has_answered(state: Replay) -> bool
         Form::Changes => false,
         Form::Record => false,
         Form::Explain(row) => row <= done,
+        Form::ExplainAll => false,
     }
 }

@@ -29,9 +29,9 @@ flawNumber LineEnd = lineEnd
 abbrev pub hasMark : List ℕ → Bool
 hasMark s = eqb (getD s 0 0) 239 && eqb (getD s 1 0) 187 && eqb (getD s 2 0) 191
 
--- LF stands where CR LF is due: after the digits of the last field
-abbrev pub lfForCrLf : ℕ → List ℕ → Fault → Bool
-lfForCrLf fields s f = eqb (getD s (f .offset) 0) lf && (eqb (f .field) fields && isDigit (getD s (f .offset - 1) 0))
+-- LF stands at the fault, right after a digit: CR LF is due
+abbrev pub lfForCrLf : List ℕ → Fault → Bool
+lfForCrLf s f = eqb (getD s (f .offset) 0) lf && isDigit (getD s (f .offset - 1) 0)
 
 -- a semicolon stands at the fault
 abbrev pub semicolonAt : List ℕ → Fault → Bool
@@ -44,7 +44,7 @@ rowForSettings fields s = eqb fields (length settingsWidths) && (rightShape rowW
 -- for a person, beside the place in a line of so many fields
 abbrev pub hintOf : ℕ → List ℕ → Fault → Hint
 hintOf fields s f =
-    cond (lfForCrLf fields s f) hint.LineFeed
+    cond (lfForCrLf s f) hint.LineFeed
     (cond (hasMark s) hint.ByteOrderMark
     (cond (semicolonAt s f) hint.Semicolon
     (cond (rowForSettings fields s) hint.DataRow hint.None)))

@@ -50,15 +50,15 @@ fn has_mark(line: &[u8]) -> bool
     (byte_at(line, 0) == 0xEF) & (byte_at(line, 1) == 0xBB) & (byte_at(line, 2) == 0xBF)
 }
 
-// Whether LF stands at the fault, right after the digits of the last field.
-fn is_lf_for_cr_lf(line: &[u8], fault: Fault, fields: usize) -> bool
-    ensures { λ r. ⌜ r ≡ lfForCrLf fields (now (line .entry)) fault ⌝ }
+// Whether LF stands at the fault, right after a digit.
+fn is_lf_for_cr_lf(line: &[u8], fault: Fault) -> bool
+    ensures { λ r. ⌜ r ≡ lfForCrLf (now (line .entry)) fault ⌝ }
 {
     if fault.offset == 0 {
         return false;
     }
     let before = byte_at(line, fault.offset - 1);
-    (byte_at(line, fault.offset) == b'\n') & ((fault.field == fields) & is_digit(before))
+    (byte_at(line, fault.offset) == b'\n') & is_digit(before)
 }
 
 fn is_semicolon(line: &[u8], fault: Fault) -> bool
@@ -87,7 +87,7 @@ fn is_row_for_settings(line: &[u8], fields: usize) -> bool
 fn hint_at(line: &[u8], fault: Fault, fields: usize) -> Hint
     ensures { λ r. ⌜ r ≡ hintOf fields (now (line .entry)) fault ⌝ }
 {
-    if is_lf_for_cr_lf(line, fault, fields) {
+    if is_lf_for_cr_lf(line, fault) {
         return Hint::LineFeed;
     }
     if has_mark(line) {

@@ -27,6 +27,7 @@ fn say_end_of_record(state: Replay) {
         Form::Changes => {}
         Form::Record => say_end(state),
         Form::Explain(_) => {}
+        Form::ExplainAll => {}
     }
 }
 

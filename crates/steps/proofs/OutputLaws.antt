@@ -9,7 +9,7 @@ use lib.ListN.{length, set, length-append}
 use lib.Seq.{sets}
 use Rattle.text.specs.Line.{lf, comma}
 use Rattle.steps.specs.declared.output.Form.{Form}
-use Rattle.steps.specs.declared.output.Form.the-variants.{Changes, Record, Explain}
+use Rattle.steps.specs.declared.output.Form.the-variants.{Changes, Record, Explain, ExplainAll}
 use Rattle.text.specs.Number.{decimal}
 use Rattle.steps.specs.Output.{pairLine, changeLine, changeRoom, recordRow, noteRoom, spread, endLine, endRoom}
 use Rattle.steps.specs.device.Calls.{Notable}
@@ -76,8 +76,10 @@ pub row-room : (form : Form) (at long room : ℕ) → shortestRow ≤ long → a
 row-room Changes at long room h k = omega arith
 row-room Record at long room h k = omega arith
 row-room (Explain row) at long room h k = omega arith
+row-room ExplainAll at long room h k = omega arith
 
 pub row-short : (form : Form) (written at long : ℕ) → shortestRow ≤ long → written ≤ at + noteRoom form → written ≤ at + spread form * long
 row-short Changes written at long h k = omega arith
 row-short Record written at long h k = omega arith
 row-short (Explain row) written at long h k = omega arith
+row-short ExplainAll written at long h k = omega arith

@@ -1,7 +1,8 @@
-// What the rows write, by the form: change lines, rows of the record, or the explanation of one row; and the end line.
+// What the rows write, by the form: change lines, rows of the record, or the explanation of one row or of every row; and the end
+// line.
 ghost use Prim.Native.Nat.{_+_, _≤_};
 ghost use lib.ListN.{length};
-ghost use Rattle.steps.specs.Output.{pairLine, changeLine, changeRoom, changeOf, recordRow, explainedOf, noteOf, noteRoom};
+ghost use Rattle.steps.specs.Output.{pairLine, changeLine, changeRoom, changeOf, recordRow, rowExplained, explainedOf, noteOf, noteRoom};
 ghost use Rattle.steps.specs.Output.{endLine, endRoom};
 ghost use Rattle.explanations.specs.Explanation.{explanationRoom};
 ghost use Rattle.rows.specs.Row.{lastRow};
@@ -17,12 +18,13 @@ use relay::tick::RelayTicked;
 use rows::Row;
 use text::number::put_decimal;
 
-// A line for each change of the output byte; a row of the record for each row done; or the explanation of the row of that
-// number.
+// A line for each change of the output byte; a row of the record for each row done; the explanation of the row of that number; or
+// that of each row done.
 pub enum Form {
     Changes,
     Record,
     Explain(u32),
+    ExplainAll,
 }
 
 // A line of the input that writes a row of the record writes at most so many times its own bytes.
@@ -81,6 +83,14 @@ fn note_record(out: &mut [u8], at: usize, done: u32, x: Row, outputs: u8) -> usi
     written.place
 }
 
+// The explanation of the row after `p`.
+fn note_reasons(out: &mut [u8], at: usize, p: Progress, x: Row) -> usize
+    requires { ⌜ at + explanationRoom ≤ length (now out) ⌝ }
+    ensures { λ r. ⌜ WroteWithin explanationRoom (now (out .entry)) (now (out .exit)) at r (rowExplained p x) ⌝ }
+{
+    put_explanation(out, at, p.settings, p.relay, x.l1, x.l2, x.l3, x.block)
+}
+
 // The explanation of the asked row, and nothing for any other.
 fn note_explanation(out: &mut [u8], at: usize, row: u32, p: Progress, x: Row) -> usize
     requires { ⌜ Notable (Explain row) (p .done) x at (length (now out)) ⌝ }
@@ -89,7 +99,7 @@ fn note_explanation(out: &mut [u8], at: usize, row: u32, p: Progress, x: Row) ->
     if p.done + 1 != row {
         return at;
     }
-    put_explanation(out, at, p.settings, p.relay, x.l1, x.l2, x.l3, x.block)
+    note_reasons(out, at, p, x)
 }
 
 // What the row after `p` writes, at a place, with its tick.
@@ -108,6 +118,7 @@ pub(crate) fn note_row(
         Form::Changes => note_change(out, at, p.done + 1, t.outputs, p.outputs),
         Form::Record => note_record(out, at, p.done, x, t.outputs),
         Form::Explain(row) => note_explanation(out, at, row, p, x),
+        Form::ExplainAll => note_reasons(out, at, p, x),
     }
 }
 

@@ -18,7 +18,7 @@ fn say_setting(refusal: u32) -> usize {
 // The lines of a configuration, 18 to 26.
 fn say_part(refusal: u32) -> usize {
     match refusal {
-        18 => say(b"the station"),
+        18 => say(b"the station, the device or the year 1999"),
         19 => say(b"the number of channels"),
         20 => say(b"the analogue channel"),
         21 => say(b"the status channel"),
@@ -56,7 +56,7 @@ pub(crate) fn say_hint(hint: Hint) -> usize {
         Hint::None => 0,
         Hint::LineFeed => say(b"; the file seems to have LF line ends, where CR LF is due"),
         Hint::ByteOrderMark => say(b"; the line begins with a byte order mark"),
-        Hint::Semicolon => say(b"; a semicolon stands where a comma is due"),
+        Hint::Semicolon => say(b"; a semicolon stands here, where fields are parted by commas"),
         Hint::DataRow => say(b"; this looks like data row 1: is the settings line missing?"),
     }
 }

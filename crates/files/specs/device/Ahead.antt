@@ -16,7 +16,7 @@ use Rattle.relay.specs.Tick.{outputsOf, relayChecks}
 use Rattle.rows.specs.declared.row.Row.{Row}
 use Rattle.steps.specs.declared.configuration.Configuration.{Configuration}
 use Rattle.steps.specs.declared.output.Form.{Form}
-use Rattle.steps.specs.declared.output.Form.the-variants.{Changes, Record, Explain}
+use Rattle.steps.specs.declared.output.Form.the-variants.{Changes, Record, Explain, ExplainAll}
 use Rattle.steps.specs.declared.progress.Stage.{Stage}
 use Rattle.steps.specs.declared.progress.Stage.the-variants.{Opening, Running, Stopped}
 use Rattle.steps.specs.declared.progress.Progress.{Progress}
@@ -33,6 +33,7 @@ abbrev pub writesChanges : Form → Bool
 writesChanges Changes = true
 writesChanges Record = false
 writesChanges (Explain row) = false
+writesChanges ExplainAll = false
 
 abbrev pub isRunning : Stage → Bool
 isRunning Opening = false

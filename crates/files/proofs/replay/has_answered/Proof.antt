@@ -13,6 +13,9 @@ enum-told-2 c = search needs
 enum-known-form : tie.Need-enum-known-form
 enum-known-form c = search needs
 
+enum-told-3 : tie.Need-enum-told-3
+enum-told-3 c = search needs
+
 returns : tie.Need-returns
 returns c = search needs
 
@@ -22,6 +25,9 @@ returns-2 c = search needs
 returns-3 : tie.Need-returns-3
 returns-3 c = rw (c .before .form .given .1)
 
+returns-4 : tie.Need-returns-4
+returns-4 c = search needs
+
 pub has-answered-spec : {M : Type 1} → statement M
 has-answered-spec =
-    tie.close (tie.spec enum-told enum-told-2 enum-known-form returns returns-2 returns-3)
+    tie.close (tie.spec enum-told enum-told-2 enum-known-form enum-told-3 returns returns-2 returns-3 returns-4)

@@ -1,7 +1,7 @@
 -- `rows::refusal::is_lf_for_cr_lf` meets its contract: at offset 0 no digit stands before.
 -- Assumes nothing.
-use mathlib.Core.Path.{_≡_, refl, sym, ap, _∙_}
-use mathlib.Core.Bool.{Bool, true, false, _&&_, and-false}
+use mathlib.Core.Path.{_≡_, refl, sym, ap}
+use mathlib.Core.Bool.{Bool, true, false, _&&_}
 use mathlib.Core.List.{List}
 use Prim.Native.Nat.{ℕ}
 use lib.Dec.{eqb}
@@ -16,17 +16,17 @@ use Rattle.rows.proofs.refusal.is_lf_for_cr_lf.Statement.{statement}
 use Rattle.rows.proofs.refusal.is_lf_for_cr_lf.Tie as tie
 
 -- LF itself is no digit
-lf-alone : (b : ℕ) (t e : Bool) → eqb b lf ≡ e → false ≡ e && (t && isDigit b)
-lf-alone b t true e = sym (ap (λ (n : ℕ). t && isDigit n) (eqb-true b lf e) ∙ and-false t)
-lf-alone b t false e = refl
+lf-alone : (b : ℕ) (e : Bool) → eqb b lf ≡ e → false ≡ e && isDigit b
+lf-alone b true e = sym (ap isDigit (eqb-true b lf e))
+lf-alone b false e = refl
 
-at-first : (fields : ℕ) (s : List ℕ) (f : Fault) → f .offset ≡ 0 → false ≡ lfForCrLf fields s f
-at-first fields s f e = rw e (lf-alone (getD s 0 0) (eqb (f .field) fields) (eqb (getD s 0 0) lf) refl)
+at-first : (s : List ℕ) (f : Fault) → f .offset ≡ 0 → false ≡ lfForCrLf s f
+at-first s f e = rw e (lf-alone (getD s 0 0) (eqb (getD s 0 0) lf) refl)
 
 returns : tie.Need-returns
 returns c =
     let a = c .before .before .before .args in
-    at-first (a .fields) (a .line .now) (a .fault) (c .if1 .taken)
+    at-first (a .line .now) (a .fault) (c .if1 .taken)
 
 sub-byte-at : tie.Need-sub-byte-at
 sub-byte-at c = search needs
@@ -41,7 +41,7 @@ is-digit-requires : tie.Need-is-digit-requires
 is-digit-requires c κs = search needs
 
 returns-2 : tie.Need-returns-2
-returns-2 c = rw (c .is-digit .ensures, c .before .before .byte-at2 .ensures, c .before .before .before .byte-at .ensures)
+returns-2 c = rw (c .is-digit .ensures, c .before .byte-at2 .ensures, c .before .before .byte-at .ensures)
 
 pub is-lf-for-cr-lf-spec : {M : Type 1} → statement M
 is-lf-for-cr-lf-spec =

@@ -16,8 +16,8 @@ returns c =
     let a = c .before .before .before .args in
     rw (ne-eqb (a .p .done + 1) (a .row) (c .if1 .taken)) (wrote-nothing (a .out .now) (a .at) explanationRoom)
 
-put-explanation-requires : tie.Need-put-explanation-requires
-put-explanation-requires c κs = search needs
+note-reasons-requires : tie.Need-note-reasons-requires
+note-reasons-requires c κs = search needs
 
 same-length : tie.Need-same-length
 same-length c = search needs
@@ -25,8 +25,8 @@ same-length c = search needs
 returns-2 : tie.Need-returns-2
 returns-2 c =
     let a = c .before .before .before .before .before .before .before .args in
-    rw (eq-eqb (a .p .done + 1) (a .row) (c .before .before .before .before .if1 .left)) (c .before .before .put-explanation .ensures)
+    rw (eq-eqb (a .p .done + 1) (a .row) (c .before .before .before .before .if1 .left)) (c .before .before .note-reasons .ensures)
 
 pub note-explanation-spec : {M : Type 1} → statement M
 note-explanation-spec =
-    tie.close (tie.spec add-if1 returns put-explanation-requires same-length returns-2)
+    tie.close (tie.spec add-if1 returns note-reasons-requires same-length returns-2)

@@ -28,6 +28,14 @@ enum-known-form c = search needs
 note-explanation-requires : tie.Need-note-explanation-requires
 note-explanation-requires c κs = rw (c .before .before .form .given .1) at (c .before .before .before .before .before .pre)
 
+enum-told-3 : tie.Need-enum-told-3
+enum-told-3 c = search needs
+
+note-reasons-requires : tie.Need-note-reasons-requires
+note-reasons-requires c κs =
+    let ready = rw (c .before .enum-told3 .given .1) at (c .before .before .before .before .pre) in
+    ready .free
+
 same-length : tie.Need-same-length
 same-length c = search needs
 
@@ -46,6 +54,12 @@ same-length-3 c = search needs
 returns-3 : tie.Need-returns-3
 returns-3 c = rw (c .before .before .before .before .before .form .given .1) (c .before .before .note-explanation .ensures)
 
+same-length-4 : tie.Need-same-length-4
+same-length-4 c = search needs
+
+returns-4 : tie.Need-returns-4
+returns-4 c = rw (c .before .before .before .before .enum-told3 .given .1) (c .before .before .note-reasons .ensures)
+
 pub note-row-spec : {M : Type 1} → statement M
 note-row-spec =
     tie.close
@@ -57,9 +71,13 @@ note-row-spec =
     note-record-requires
     enum-known-form
     note-explanation-requires
+    enum-told-3
+    note-reasons-requires
     same-length
     returns
     same-length-2
     returns-2
     same-length-3
-    returns-3)
+    returns-3
+    same-length-4
+    returns-4)
