@@ -1,7 +1,7 @@
 -- From the line that was read to the settings line's answer.
 -- Assumes nothing.
 use mathlib.Core.Path.{_≡_, refl, sym, ap, _∙_}
-use mathlib.Core.Bool.{true}
+use mathlib.Core.Bool.{true, false}
 use mathlib.Core.List.{List, []}
 use Prim.Native.Nat.{ℕ, _^_, _<_}
 use native.Mathlib.Omega.{arith}
@@ -15,8 +15,8 @@ use Rattle.faults.specs.declared.fault.Shape.the-variants.{Right, Wrong}
 use Rattle.faults.specs.declared.reader.Line.{Line}
 use Rattle.rows.specs.declared.settings_line.SettingsRead.{SettingsRead}
 use Rattle.rows.specs.declared.settings_line.SettingsRead.the-variants.{Accepted, Refused}
-use Rattle.text.specs.Line.{endsCrLf, rightShape, numbersOf}
-use Rattle.faults.specs.Fault.{shapeOf}
+use Rattle.text.specs.Line.{rightShape, numbersOf}
+use Rattle.faults.specs.Fault.{shapeOf, isRight}
 use Rattle.faults.specs.Reader.{lineAnswer}
 use Rattle.faults.specs.device.Calls.{Readable}
 use Rattle.rows.specs.declared.refusal.Hint.the-variants.{None}
@@ -24,12 +24,12 @@ use Rattle.rows.specs.declared.refusal.Refusal.{Refusal}
 use Rattle.rows.specs.Refusals.{noDigit}
 use Rattle.rows.specs.Refusal.{misshapen, withoutPlace, accepted, lineRefusal}
 use Rattle.rows.specs.SettingsLine.{settingsIn, settingsLineRefusal, settingsLineAnswer, settingsLineNumbers}
-use Rattle.rows.specs.Widths.{settingsWidths}
+use Rattle.rows.specs.Widths.{rowWidths, settingsWidths}
 use Rattle.rows.proofs.AnswerNumbers.{flaw-refused, no-refusal, answer-numbers, answer-refused}
 use Rattle.rows.proofs.NumberedLaws.{line-passed}
 use Rattle.faults.proofs.LineLaws.{line-shape, line-number}
 use Rattle.faults.proofs.FaultLaws.{empty-line}
-use Rattle.faults.proofs.RightLaws.{faultless-shape}
+use Rattle.faults.proofs.RightLaws.{faultless-right, faultless-shape}
 
 pub settings-readable : Readable settingsWidths
 settings-readable = record { some = omega arith; few = omega arith; each = refl }
@@ -44,8 +44,10 @@ settings-none s e = no-refusal (length settingsWidths) (shapeOf settingsWidths s
 
 -- a line of no bytes: "an empty input is one with no digit", at its end, in the first field
 pub settings-empty : settingsLineRefusal [] ≡ record { number = noDigit; offset = 0; field = 1; hint = None }
-unfolding rightShape endsCrLf
-settings-empty = settings-by [] (Wrong (record { flaw = NoDigit; offset = 0; field = 1 })) (empty-line settingsWidths (omega arith))
+settings-empty = settings-by [] (Wrong (record { flaw = NoDigit; offset = 0; field = 1 })) (empty-line settingsWidths (omega arith)) ∙ rw no-row
+  where
+    no-row : rightShape rowWidths [] ≡ false
+    no-row = sym (faultless-right rowWidths [] (omega arith)) ∙ ap isRight (empty-line rowWidths (omega arith))
 
 -- both clauses of the reader's contract
 pub settings-told : (r : SettingsRead) (s : List ℕ) → r ≡ settingsLineAnswer s → (r ≡ settingsLineAnswer s) × (settingsLineNumbers r ≡ settingsLineRefusal s)
