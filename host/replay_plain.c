@@ -345,7 +345,7 @@ static void write_record_row(unsigned number, const uint32_t g[3], uint8_t out)
 enum form { REPLAY, RECORD, EXPLAIN, EXPLAIN_ALL };
 
 /*
- * What is written, and of the rows up to which; of the last one alone for an explanation.
+ * What is written, and of the rows up to which; of the last one alone for EXPLAIN.
  * The configuration is a file, or NULL for none.
  */
 struct asked {

@@ -28,6 +28,7 @@ fn say_missing(row: u32, done: u32) {
     say(b"\n");
 }
 
+// A portion fits its room in the form; the numbers are those of the two constants.
 fn run(form: Form) -> Ended
     requires { ⌜ portionRoom form longestLine 4096 ≤ 190486 ⌝ }
 {

@@ -14,8 +14,8 @@ use faults::fault::Shape;
 use faults::reader::byte_at;
 use faults::reader::is_digit;
 
-// What a person is told beside the place: that LF stands where CR LF is due, that the line begins with a byte order mark, that a
-// semicolon stands where a comma is due, or that the line may be data row 1, where the settings line is due.
+// What a person is told beside the place: that LF stands there, where CR LF is due; that the line begins with a byte order mark; that a
+// semicolon stands there; or that the line may be data row 1, where the settings line is due.
 pub enum Hint {
     None,
     LineFeed,
