@@ -1,4 +1,6 @@
 // Checks of a call's arguments, and the refusal number that they give: a library beneath the layers.
+#![tactic(auto)]
+
 ghost use Rattle.std.specs.Prelude.{◌≡◌, [], ◌∷◌};
 ghost use Rattle.checks.specs.Checks.{check, first_failed};
 ghost use Rattle.checks.specs.Range.{in_range};

@@ -5,7 +5,7 @@ use phase::tick::tick;
 use phase::{PhaseState, Settings};
 
 // How far both have come. A first trip of 0 is none.
-#[derive(Drop)]
+#[derive(Clone, Copy)]
 struct Pair {
     ticks: u32,
     first: PhaseState,

@@ -18,21 +18,21 @@ const LINE_LIMIT: usize = LONGEST_LINE + 1;
 const RATE_LINE: u32 = 9;
 
 // The refusal number, and the number of the line.
-#[derive(Drop)]
+#[derive(Clone, Copy)]
 pub struct Fault {
     pub refusal: u32,
     pub line: u32,
 }
 
 // With the last sample number, or what was refused.
-#[derive(Drop)]
+#[derive(Clone, Copy)]
 pub enum ConfigRead {
     Accepted(u64),
     Refused(Fault),
 }
 
 // The number of the line that is due, the last sample number, and the refusal, 0 where there is none.
-#[derive(Drop)]
+#[derive(Clone, Copy)]
 pub struct Reading {
     pub line: u32,
     pub last: u64,
@@ -40,7 +40,7 @@ pub struct Reading {
 }
 
 // How far it has come, and the cutter that holds the line that has begun.
-#[derive(Drop)]
+#[derive(Clone, Copy)]
 pub struct Reader {
     pub reading: Reading,
     pub cutter: Cutter,

@@ -3,7 +3,7 @@ ghost use Rattle.std.specs.Prelude.{◌≡◌, ◌≤◌};
 ghost use Rattle.curve.specs.Constants.{constants_of};
 
 // The power a: 0.02, which is a fiftieth, 1 or 2.
-#[derive(Drop)]
+#[derive(Clone, Copy)]
 pub enum Power {
     Fiftieth,
     First,
@@ -11,7 +11,7 @@ pub enum Power {
 }
 
 // k and kr are in units of 0.0001 s, c in microseconds. Where the paper has no kr it is 0, and nothing reads it.
-#[derive(Drop)]
+#[derive(Clone, Copy)]
 pub struct Constants {
     pub k: u64,
     pub c: u64,

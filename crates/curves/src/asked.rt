@@ -7,7 +7,7 @@ const WIDTH: usize = 4;
 // No argument has this value.
 const NONE: u32 = 10000;
 
-#[derive(Drop)]
+#[derive(Clone, Copy)]
 pub(crate) struct Asked {
     pub(crate) operation: u32,
     pub(crate) first: u32,

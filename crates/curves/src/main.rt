@@ -1,5 +1,7 @@
 // The program `curves OPERATION FIRST LAST`: for each ratio from the first to the last that has one, a line `ratio,microseconds` on
 // standard output: the reset time below 100, the operate time above, both at multiplier 1.
+#![tactic(auto)]
+
 mod asked;
 
 use asked::{Asked, is_right, read_arguments};

@@ -1,6 +1,8 @@
 // The program `explain ROW`: a recording on standard input, and for each phase a line on standard output that tells why it did
 // or did not trip in that row; `explain --all` tells it of every row done. Where the recording was refused or has no such row, or a
 // call of the system failed, one line on standard error.
+#![tactic(auto)]
+
 mod asked;
 
 ghost use Rattle.std.specs.Prelude.{◌≤◌};

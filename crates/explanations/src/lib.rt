@@ -1,4 +1,6 @@
 // The explanation of a tick as text: a line for each phase.
+#![tactic(auto)]
+
 mod explanation;
 
 pub use explanation::put_explanation;

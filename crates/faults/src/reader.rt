@@ -12,14 +12,14 @@ use crate::fault::{Fault, Flaw, Shape};
 pub const FIELD_LIMIT: usize = 16;
 
 // The shape of a line, and where it is right its numbers, from the front; the other places hold 0.
-#[derive(Drop)]
+#[derive(Clone, Copy)]
 pub struct Line {
     pub shape: Shape,
     pub numbers: [u64; FIELD_LIMIT],
 }
 
 // What stands after the digits of a field: the comma before the next one, the CR LF of a right line, or a fault.
-#[derive(Drop)]
+#[derive(Clone, Copy)]
 enum Closing {
     Next,
     Last,

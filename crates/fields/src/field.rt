@@ -9,7 +9,7 @@ use crate::marks::spaces;
 use crate::number::{after_whole, is_channels, is_decimal_of, is_extreme, is_number, is_whole};
 
 // What a field must be.
-#[derive(Drop)]
+#[derive(Clone, Copy)]
 pub enum Field {
     // so many bytes
     Text(usize, usize),

@@ -1,4 +1,6 @@
 // What a field of a recorder's configuration must be: a library beneath `config`.
+#![tactic(auto)]
+
 pub mod field;
 pub mod marks;
 mod number;

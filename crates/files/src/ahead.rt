@@ -16,7 +16,7 @@ use rows::{Row, read_front};
 use steps::{Form, Progress, Stage, note_change};
 
 // What changes from row to row of a replay that runs.
-#[derive(Drop)]
+#[derive(Clone, Copy)]
 pub struct Way {
     pub courses: Courses,
     pub done: u32,
@@ -24,14 +24,14 @@ pub struct Way {
 }
 
 // The way after a row, and the place after what the row wrote.
-#[derive(Drop)]
+#[derive(Clone, Copy)]
 pub struct WayNoted {
     pub way: Way,
     pub written: usize,
 }
 
 // The way after some rows, the place after them in the portion, and the place after what they wrote.
-#[derive(Drop)]
+#[derive(Clone, Copy)]
 pub struct RowsDone {
     pub way: Way,
     pub next: usize,
@@ -39,7 +39,7 @@ pub struct RowsDone {
 }
 
 // The same of a progress.
-#[derive(Drop)]
+#[derive(Clone, Copy)]
 pub struct Ahead {
     pub progress: Progress,
     pub next: usize,

@@ -1,4 +1,6 @@
 // Layer 4: the replay fed by portions of its input.
+#![tactic(auto)]
+
 mod ahead;
 mod replay;
 

@@ -24,7 +24,7 @@ pub const LONGEST_LINE: usize = 45;
 pub const LINE_LIMIT: usize = LONGEST_LINE + 1;
 
 // What its rows write, how far it has come, and the cutter that holds the line that has begun.
-#[derive(Drop)]
+#[derive(Clone, Copy)]
 pub struct Replay {
     pub form: Form,
     pub progress: Progress,
@@ -32,7 +32,7 @@ pub struct Replay {
 }
 
 // Whether the portion was taken, the state after it, and how many bytes it wrote.
-#[derive(Drop)]
+#[derive(Clone, Copy)]
 pub struct Fed {
     pub taken: bool,
     pub state: Replay,
@@ -145,12 +145,8 @@ fn takes_portion(form: Form, held: usize, portion: &[u8], room: usize) -> bool
 // LONGEST_LINE bytes more than the portion suffices for change lines, RECORD_SPREAD times as much for the record, and
 // EXPLAIN_SPREAD times as much for explanations.
 pub fn feed(state: Replay, portion: &[u8], out: &mut [u8]) -> Fed
-    ensures* answer { do
-      room ← (⟦out.len()⟧).entry
-      ⌜ result ≡ feed_answer state portion.now room ⌝ }
-    ensures* output { do
-      room ← (⟦out.len()⟧).entry
-      ⌜ out.new ≡ sets out.old 0 (feed_writes state portion.now room) ⌝ }
+    ensures answer { result ≡ feed_answer state portion.now (length out.old) }
+    ensures output { out.new ≡ sets out.old 0 (feed_writes state portion.now (length out.old)) }
     ensures within { result.written ≤ length out.new }
 {
     let form = state.form;
@@ -189,12 +185,8 @@ pub fn refusal_at_end(state: Replay) -> Refusal
 // Ends the input: writes the end line at the front of `out` and answers its length. Where `out` has less than END_ROOM
 // bytes it writes nothing and answers 0.
 pub fn finish(state: Replay, out: &mut [u8]) -> usize
-    ensures* written { do
-      room ← (⟦out.len()⟧).entry
-      ⌜ result ≡ length (finish_writes state room) ⌝ }
-    ensures* output { do
-      room ← (⟦out.len()⟧).entry
-      ⌜ out.new ≡ sets out.old 0 (finish_writes state room) ⌝ }
+    ensures written { result ≡ length (finish_writes state (length out.old)) }
+    ensures output { out.new ≡ sets out.old 0 (finish_writes state (length out.old)) }
     ensures within { result ≤ length out.new }
 {
     if out.len() < END_ROOM {

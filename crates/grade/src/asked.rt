@@ -7,7 +7,7 @@ const WIDTH: usize = 10;
 
 const MOST: u64 = 9999999999;
 
-#[derive(Drop)]
+#[derive(Clone, Copy)]
 pub(crate) struct Asked {
     pub(crate) is_right: bool,
     pub(crate) wanted: i64,

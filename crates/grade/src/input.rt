@@ -11,20 +11,20 @@ use text::lines::Closer;
 // Two lines, and of a line that is too long more than can be right.
 const ROOM: usize = 128;
 
-#[derive(Drop)]
+#[derive(Clone, Copy)]
 pub(crate) struct Relays {
     pub(crate) upstream: Settings,
     pub(crate) downstream: Settings,
 }
 
-#[derive(Drop)]
+#[derive(Clone, Copy)]
 pub(crate) struct RefusedRelay {
     pub(crate) relay: Relay,
     pub(crate) refusal: Refusal,
 }
 
 // Unread: a read failed, which was told.
-#[derive(Drop)]
+#[derive(Clone, Copy)]
 pub(crate) enum Lines {
     Unread,
     Refused(RefusedRelay),
@@ -59,7 +59,7 @@ fn read_input(bytes: &mut [u8]) -> Portion
 }
 
 // The settings of a line, and the place after it.
-#[derive(Drop)]
+#[derive(Clone, Copy)]
 struct Line {
     read: SettingsRead,
     next: usize,

@@ -1,6 +1,8 @@
 // The program `grade WANTED`: two settings lines on standard input, upstream's first. On standard output a line for each ratio at
 // which the margin between the two relays is below the wanted one, and the end line with the smallest margin; where a relay is
 // refused the end line alone, and one line on standard error.
+#![tactic(auto)]
+
 mod asked;
 mod input;
 mod output;

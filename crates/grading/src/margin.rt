@@ -11,7 +11,7 @@ use checks::{first_failed, in_range};
 use phase::Settings;
 
 // The first trip tick of each, and upstream's less downstream's.
-#[derive(Drop)]
+#[derive(Clone, Copy)]
 pub struct Margin {
     pub refusal: Refusal,
     pub upstream: u64,

@@ -11,7 +11,7 @@ use checks::first_failed;
 use phase::Settings;
 
 // How many ratios were listed; the smallest difference, and the lowest ratio that has it.
-#[derive(Drop)]
+#[derive(Clone, Copy)]
 pub struct Graded {
     pub refusal: Refusal,
     pub count: usize,
@@ -25,7 +25,7 @@ impl Graded {
 }
 
 // The smallest difference so far, and the ratio that had it first; at first none, which a ratio of 0 tells.
-#[derive(Drop)]
+#[derive(Clone, Copy)]
 struct Smallest {
     difference: i64,
     ratio: u32,

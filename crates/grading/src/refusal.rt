@@ -9,14 +9,14 @@ use checks::first_failed;
 use phase::Settings;
 use phase::settings::settings_first_failed;
 
-#[derive(Drop)]
+#[derive(Clone, Copy)]
 pub enum Relay {
     Neither,
     Upstream,
     Downstream,
 }
 
-#[derive(Drop)]
+#[derive(Clone, Copy)]
 pub struct Refusal {
     pub number: u32,
     pub relay: Relay,

@@ -13,13 +13,13 @@ use phase::tick::phase_first_failed;
 use phase::{PhaseState, Settings};
 
 // The first tick with the phase trip on, counted from 1, or none.
-#[derive(Drop)]
+#[derive(Clone, Copy)]
 pub enum TripTick {
     At(u32),
     None,
 }
 
-#[derive(Drop)]
+#[derive(Clone, Copy)]
 pub struct Jumped {
     pub refusal: u32,
     pub state: PhaseState,

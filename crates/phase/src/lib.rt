@@ -1,4 +1,6 @@
 // Layer 2, one phase: the settings and their check, the phase state, and one tick.
+#![tactic(auto)]
+
 pub mod advance;
 pub mod operation;
 pub mod pace;

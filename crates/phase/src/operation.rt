@@ -3,19 +3,19 @@ ghost use Rattle.std.specs.Prelude.{◌≡◌};
 ghost use Rattle.phase.specs.Operation.{kind_of};
 
 // How the sum of a curve resets: an IEC curve's after the reset time, an ANSI curve's by the loss of each tick.
-#[derive(Drop)]
+#[derive(Clone, Copy)]
 pub enum ResetRule {
     Iec,
     Ansi,
 }
 
-#[derive(Drop)]
+#[derive(Clone, Copy)]
 pub enum Timing {
     Definite,
     Curve(ResetRule),
 }
 
-#[derive(Drop)]
+#[derive(Clone, Copy)]
 pub enum Kind {
     Off,
     On(Timing),

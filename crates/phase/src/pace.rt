@@ -4,7 +4,7 @@ ghost use Rattle.phase.specs.device.Pace.{pace_of};
 
 use crate::settings::Settings;
 
-#[derive(Drop)]
+#[derive(Clone, Copy)]
 pub struct Pace {
     pub sample: u32,
     pub gain: u64,

@@ -6,7 +6,7 @@ ghost use Rattle.phase.specs.Settings.{settings_checks, settings_refusal, trip_l
 use checks::{first_failed, in_range};
 
 // In the order of the document's table.
-#[derive(Drop)]
+#[derive(Clone, Copy)]
 pub struct Settings {
     pub operation: u32,
     pub start_current: u32,

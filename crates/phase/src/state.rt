@@ -6,7 +6,7 @@ use crate::operation::{Kind, Timing, kind_of};
 use crate::settings::{Settings, trip_level};
 
 // `started` is whether the phase was started on its last tick.
-#[derive(Drop)]
+#[derive(Clone, Copy)]
 pub struct PhaseState {
     pub sum: u64,
     pub run: u32,

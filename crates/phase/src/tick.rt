@@ -13,7 +13,7 @@ use crate::settings::{Settings, settings_first_failed, trip_level};
 use crate::state::{PhaseState, is_valid};
 use checks::first_failed;
 
-#[derive(Drop)]
+#[derive(Clone, Copy)]
 pub struct Ticked {
     pub refusal: u32,
     pub state: PhaseState,

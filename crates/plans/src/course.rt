@@ -10,7 +10,7 @@ use crate::memo::{Memo, memo_at_setting, next_memo};
 use crate::plan::Plan;
 use phase::PhaseState;
 
-#[derive(Drop)]
+#[derive(Clone, Copy)]
 pub struct Course {
     pub state: PhaseState,
     pub memo: Memo,
@@ -18,7 +18,7 @@ pub struct Course {
 }
 
 // The course after a tick, and the tick's outputs.
-#[derive(Drop)]
+#[derive(Clone, Copy)]
 pub struct Turned {
     pub course: Course,
     pub start: bool,

@@ -22,7 +22,7 @@ const CAP_RATIO: u32 = 2000;
 pub(crate) const TOP_SAMPLE: u32 = 4294967295;
 
 // The gain and the loss of every sample from `from` to `to`.
-#[derive(Drop)]
+#[derive(Clone, Copy)]
 pub struct Memo {
     pub from: u32,
     pub to: u32,

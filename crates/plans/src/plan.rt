@@ -14,7 +14,7 @@ const NO_COUNT: u32 = PhaseState::RUN_LIMIT + 1;
 
 // The largest samples that leave a phase idle, one that was not started and one that was; the sum and the run that a trip takes;
 // the drops that clear the sum and the run, and where drop stops.
-#[derive(Drop)]
+#[derive(Clone, Copy)]
 pub struct Plan {
     pub settings: Settings,
     pub starts_above: u32,

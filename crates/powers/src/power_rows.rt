@@ -5,7 +5,7 @@ ghost use Rattle.powers.specs.Power.{X};
 ghost use Rattle.powers.specs.device.Twos.{Holds};
 
 // Two entries of the table that follow each other.
-#[derive(Drop)]
+#[derive(Clone, Copy)]
 pub(crate) struct Two {
     first: u64,
     second: u64,

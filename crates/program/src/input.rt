@@ -5,7 +5,7 @@ use crate::failure::say_failure;
 use libc::{EINTR, STDIN_FILENO};
 
 // How many bytes were read: none at the end of the input, and where the read failed.
-#[derive(Drop)]
+#[derive(Clone, Copy)]
 pub struct Portion {
     pub count: usize,
     pub failed: bool,

@@ -1,5 +1,7 @@
 // What the programs share: a portion of standard input or of a file, bytes to an output, and a failure told on standard error. A
 // read, write or open that a signal interrupts is tried again.
+#![tactic(auto)]
+
 mod failure;
 mod file;
 mod input;

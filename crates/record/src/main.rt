@@ -1,5 +1,7 @@
 // The program `record`: a settings line and data rows on standard input, a row of the relay's record for each row done on
 // standard output; where the input was refused or a call of the system failed, one line on standard error.
+#![tactic(auto)]
+
 use files::LONGEST_LINE;
 use runs::PORTION;
 use steps::{Configuration, Form, RECORD_SPREAD};

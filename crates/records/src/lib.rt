@@ -1,4 +1,6 @@
 // The relay's record: its rows in the shape of COMTRADE, written and read.
+#![tactic(auto)]
+
 mod reader;
 mod record_row;
 pub mod refusals;

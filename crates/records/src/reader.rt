@@ -10,7 +10,7 @@ use faults::reader::read_line;
 use rows::refusals::WRONG_NUMBER;
 use rows::{Refusal, refuse, refuse_shape};
 
-#[derive(Drop)]
+#[derive(Clone, Copy)]
 pub enum RecordRead {
     Accepted(RecordRow),
     Refused(Refusal),

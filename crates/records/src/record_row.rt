@@ -2,7 +2,7 @@
 ghost use Rattle.std.specs.Prelude.{◌≡◌, true};
 ghost use Rattle.records.specs.RecordRow.{row_fits, field_numbers};
 
-#[derive(Drop)]
+#[derive(Clone, Copy)]
 pub struct RecordRow {
     pub number: u32,
     pub l1: u32,

@@ -3,7 +3,7 @@ ghost use Rattle.std.specs.Prelude.{◌≡◌, ◌≤◌, length};
 ghost use Rattle.records.specs.device.StatusRead.{status_answer};
 
 // Whether each field is 0 or 1, and then the byte whose bits they are.
-#[derive(Drop)]
+#[derive(Clone, Copy)]
 pub struct Status {
     pub right: bool,
     pub byte: u8,

@@ -9,7 +9,7 @@ use crate::refusals::{DOES_NOT_FIT, NO_ROOM};
 use text::decimals::{line_length, put_line};
 
 // 0 or the refusal's number, and the place where the next row goes.
-#[derive(Drop)]
+#[derive(Clone, Copy)]
 pub struct RowWritten {
     pub refusal: u32,
     pub place: usize,

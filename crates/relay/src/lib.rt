@@ -1,4 +1,6 @@
 // Layer 3, the relay: three phases, the decision, and one tick.
+#![tactic(auto)]
+
 pub mod outputs;
 pub mod refusals;
 pub mod state;

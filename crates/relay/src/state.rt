@@ -11,7 +11,7 @@ use phase::state::is_valid;
 use phase::{PhaseState, Settings};
 
 // L1, L2, L3.
-#[derive(Drop)]
+#[derive(Clone, Copy)]
 pub struct RelayState {
     pub phases: [PhaseState; 3],
 }

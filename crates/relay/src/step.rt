@@ -9,14 +9,14 @@ use crate::state::RelayState;
 use plans::course::{Course, course_from, turn};
 use plans::plan::Plan;
 
-#[derive(Drop)]
+#[derive(Clone, Copy)]
 pub struct Courses {
     pub l1: Course,
     pub l2: Course,
     pub l3: Course,
 }
 
-#[derive(Drop)]
+#[derive(Clone, Copy)]
 pub struct Stepped {
     pub courses: Courses,
     pub outputs: u8,

@@ -11,7 +11,7 @@ use checks::first_failed;
 use phase::Settings;
 use phase::tick::tick_ready;
 
-#[derive(Drop)]
+#[derive(Clone, Copy)]
 pub struct RelayTicked {
     pub refusal: u32,
     pub state: RelayState,

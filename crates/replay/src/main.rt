@@ -1,5 +1,7 @@
 // The program `replay [--config FILE]`: a settings line and data rows on standard input, changes and the end line on standard
 // output; why a recording was refused, on standard error.
+#![tactic(auto)]
+
 mod arguments;
 
 use files::LONGEST_LINE;

@@ -1,6 +1,8 @@
 // Inputs of the replay, run in memory through the library: those of standard input, and some of its own. For each case: its
 // name, its length, and what its replay writes; and whether that differs where the input is cut in two at any place, or fed
 // byte by byte.
+#![tactic(auto)]
+
 mod line;
 mod list;
 mod made_up;

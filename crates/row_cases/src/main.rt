@@ -1,5 +1,7 @@
 // Rows, settings lines and rows of the record, handed to their readers and writer by themselves. For each case: its name, and
 // what is answered.
+#![tactic(auto)]
+
 mod line;
 mod readers;
 mod record;

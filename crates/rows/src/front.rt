@@ -11,7 +11,7 @@ use faults::reader::is_digit;
 const FRONT_ROOM: usize = 46;
 
 // Whether a right row that is accepted stands there; the row, and the place after it.
-#[derive(Drop)]
+#[derive(Clone, Copy)]
 pub struct Front {
     pub right: bool,
     pub row: Row,
@@ -19,7 +19,7 @@ pub struct Front {
 }
 
 // Whether a field stands there, closed; the number of its digits, and the place after the closer.
-#[derive(Drop)]
+#[derive(Clone, Copy)]
 struct Field {
     closed: bool,
     value: u64,

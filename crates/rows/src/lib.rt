@@ -1,4 +1,6 @@
 // Layer 4, one line at a time: data rows and the settings line.
+#![tactic(auto)]
+
 mod front;
 mod refusal;
 pub mod refusals;

@@ -9,7 +9,7 @@ use faults::reader::{byte_at, is_digit};
 
 // What a person is told beside the place: that LF stands there, where CR LF is due; that the line begins with a byte order mark; that a
 // semicolon stands there; or that the line may be data row 1, where the settings line is due.
-#[derive(Drop)]
+#[derive(Clone, Copy)]
 pub enum Hint {
     None,
     LineFeed,
@@ -19,7 +19,7 @@ pub enum Hint {
 }
 
 // The number; of a wrong shape the byte offset in the line and the field, counted from 1, else 0 and 0.
-#[derive(Drop)]
+#[derive(Clone, Copy)]
 pub struct Refusal {
     pub number: u32,
     pub offset: usize,

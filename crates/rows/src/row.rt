@@ -8,7 +8,7 @@ use crate::widths::{ROW_FIELDS, read_as_row};
 use faults::fault::Shape;
 use relay::refusals::WRONG_BLOCK;
 
-#[derive(Drop)]
+#[derive(Clone, Copy)]
 pub struct Row {
     pub number: u32,
     pub l1: u32,
@@ -17,7 +17,7 @@ pub struct Row {
     pub block: u8,
 }
 
-#[derive(Drop)]
+#[derive(Clone, Copy)]
 pub enum RowRead {
     Accepted(Row),
     Refused(Refusal),

@@ -8,7 +8,7 @@ use faults::fault::Shape;
 use faults::reader::read_line;
 use phase::Settings;
 
-#[derive(Drop)]
+#[derive(Clone, Copy)]
 pub enum SettingsRead {
     Accepted(Settings),
     Refused(Refusal),

@@ -8,14 +8,14 @@ use files::{Fed, Replay};
 use steps::{Configuration, Form};
 
 // The state after the input, and whether a call of the system failed.
-#[derive(Drop)]
+#[derive(Clone, Copy)]
 pub struct Ended {
     pub state: Replay,
     pub failed: bool,
 }
 
 // The state after a portion; whether nothing more need be read, and whether a call of the system failed.
-#[derive(Drop)]
+#[derive(Clone, Copy)]
 struct Turn {
     state: Replay,
     over: bool,

@@ -10,7 +10,7 @@ use config::ConfigRead;
 use rows::{Refusal, refuse};
 
 // None, or what the reader of one answered.
-#[derive(Drop)]
+#[derive(Clone, Copy)]
 pub enum Configuration {
     Absent,
     Given(ConfigRead),

@@ -1,5 +1,7 @@
 // Layer 4: the replay line by line: how far a line brings it, and what that writes: change lines, the record, or the explanation of
 // a row.
+#![tactic(auto)]
+
 mod configuration;
 mod output;
 mod progress;

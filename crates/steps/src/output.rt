@@ -19,7 +19,7 @@ use text::number::put_decimal;
 
 // A line for each change of the output byte; a row of the record for each row done; the explanation of the row of that number; or
 // that of each row done.
-#[derive(Drop)]
+#[derive(Clone, Copy)]
 pub enum Form {
     Changes,
     Record,

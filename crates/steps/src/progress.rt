@@ -17,7 +17,7 @@ use rows::refusals::NO_DIGIT;
 use rows::{Hint, Refusal, Row, RowRead, SettingsRead, read_row, read_settings_line, refuse};
 
 // What the next line is to be; after a refusal, what was refused.
-#[derive(Drop)]
+#[derive(Clone, Copy)]
 pub enum Stage {
     Opening,
     Running,
@@ -25,7 +25,7 @@ pub enum Stage {
 }
 
 // The configuration, the stage, the settings, the relay's state, the rows done, and the output byte of the last.
-#[derive(Drop)]
+#[derive(Clone, Copy)]
 pub struct Progress {
     pub configuration: Configuration,
     pub stage: Stage,
@@ -36,7 +36,7 @@ pub struct Progress {
 }
 
 // The progress after a line, and the place after what the line wrote.
-#[derive(Drop)]
+#[derive(Clone, Copy)]
 pub struct Noted {
     pub progress: Progress,
     pub written: usize,

@@ -12,14 +12,14 @@ pub const LONGEST_OF_ALL: usize = 256;
 pub const HELD_ROOM: usize = LONGEST_OF_ALL + 1;
 
 // The line that has begun: the first `count` bytes of `held`.
-#[derive(Drop)]
+#[derive(Clone, Copy)]
 pub struct Cutter {
     pub held: [u8; HELD_ROOM],
     pub count: usize,
 }
 
 // What the last byte of a piece did, the cutter with the piece, and the place after it in the portion.
-#[derive(Drop)]
+#[derive(Clone, Copy)]
 pub struct PieceCut {
     pub cut: Cut,
     pub cutter: Cutter,

@@ -1,4 +1,6 @@
 // Text and bytes: a library beneath the layers, which names nothing of relays.
+#![tactic(auto)]
+
 pub mod bytes;
 pub mod cutter;
 pub mod decimals;

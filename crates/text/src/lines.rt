@@ -5,14 +5,14 @@ ghost use Rattle.text.specs.Lines.{closed_by};
 ghost use Rattle.text.specs.device.Calls.{ByteCut};
 
 // What closes a line: CR LF, or LF alone.
-#[derive(Drop)]
+#[derive(Clone, Copy)]
 pub enum Closer {
     CrLf,
     Lf,
 }
 
 // What a byte does to the line that has begun.
-#[derive(Drop)]
+#[derive(Clone, Copy)]
 pub enum Cut {
     Held,
     Closed,

@@ -6,7 +6,7 @@ ghost use Rattle.text.specs.device.Calls.{DigitsFound, Wrote};
 // The byte '0'.
 const ZERO: u64 = 48;
 
-#[derive(Drop)]
+#[derive(Clone, Copy)]
 pub struct Digits {
     pub count: usize,
     pub value: u64,

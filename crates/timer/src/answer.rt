@@ -4,7 +4,7 @@ ghost use Rattle.timer.specs.Answer.{accepted, refused, answered};
 
 use crate::state::TimerState;
 
-#[derive(Drop)]
+#[derive(Clone, Copy)]
 pub struct Timed {
     pub refusal: u32,
     pub state: TimerState,

@@ -3,7 +3,7 @@ ghost use Rattle.std.specs.Prelude.{◌≡◌};
 ghost use Rattle.timer.specs.Inputs.{input_of};
 
 // The input is start; start OR or-input; start AND and-input; (start OR or-input) AND and-input.
-#[derive(Drop)]
+#[derive(Clone, Copy)]
 pub enum Combination {
     Plain,
     Or,
@@ -12,7 +12,7 @@ pub enum Combination {
 }
 
 // The inputs at one tick. One that the combination does not name is not looked at.
-#[derive(Drop)]
+#[derive(Clone, Copy)]
 pub struct Inputs {
     pub combination: Combination,
     pub start: bool,

@@ -1,4 +1,6 @@
 // The timers, one tick at a time: Set delay, Hold, Reset delay and the flip-flop.
+#![tactic(auto)]
+
 mod answer;
 mod inputs;
 pub mod refusals;

@@ -3,7 +3,7 @@ ghost use Rattle.std.specs.Prelude.{◌≡◌};
 ghost use Rattle.timer.specs.State.{fresh_timer, with_count, with_previous, with_latch};
 
 // Only Hold changes the previous input, only the flip-flop the latch.
-#[derive(Drop)]
+#[derive(Clone, Copy)]
 pub struct TimerState {
     pub count: u32,
     pub previous: bool,

@@ -7,7 +7,7 @@ pub(crate) fn next(x: u32) -> u32 {
 
 // How the inputs of a run are drawn and combined: the start input is on at `density` of 16 numbers, a reset comes at one of
 // 16 or never.
-#[derive(Drop)]
+#[derive(Clone, Copy)]
 pub struct Load {
     pub combination: Combination,
     pub density: u32,

@@ -2,7 +2,7 @@
 use crate::line::{say, say_number, say_state};
 use timer::{Inputs, Timed, TimerState};
 
-#[derive(Drop)]
+#[derive(Clone, Copy)]
 pub enum Kind {
     SetDelay,
     Hold,

@@ -5,7 +5,7 @@ use crate::line::{say, say_bit, say_combination, say_number, say_state};
 use timer::{Combination, TimerState};
 
 // Where a run has come to: the timer's state and the generator's number.
-#[derive(Drop)]
+#[derive(Clone, Copy)]
 pub struct Place {
     pub state: TimerState,
     pub x: u32,

@@ -10,7 +10,7 @@ use phase::tick::{phase_first_failed, tick};
 use phase::{PhaseState, Settings};
 
 // The reason; or the refusal's number, and no reason.
-#[derive(Drop)]
+#[derive(Clone, Copy)]
 pub enum Explained {
     Because(Reason),
     Refused(u32),

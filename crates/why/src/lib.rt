@@ -1,4 +1,6 @@
 // Beside the phase: why one tick of one phase did or did not trip.
+#![tactic(auto)]
+
 mod answer;
 mod reason;
 pub mod refusals;

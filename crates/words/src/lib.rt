@@ -1,4 +1,6 @@
 // What a refusal means, for a person, in one form for every program.
+#![tactic(auto)]
+
 mod reason;
 mod words;
 

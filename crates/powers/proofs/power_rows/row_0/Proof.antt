@@ -9,8 +9,8 @@ use Rattle.powers.proofs.power_rows.row_0.Tie as tie
 use Rattle.powers.proofs.power_rows.row_0.Lts as lts
 use Rattle.powers.proofs.power_rows.row_0.Reads as reads
 
-pub row-0-spec : {M : Type 1} → statement M
-row-0-spec =
+pub row_0_spec : {M : Type 1} → statement M
+row_0_spec =
     tie.close
-    (λ 𝓛 𝓣. t_fn_plain 𝓛 𝓣 0 lts.ps lts.r lts.xs lts.m lts.hs lts.body _ (λ κs qs bs. lts.typed reads.Pre reads.Post κs qs 𝓛 𝓣 bs) reads.Pre reads.Post
+    (λ 𝓤 𝓛 𝓣. t_fn_plain 𝓛 𝓣 0 lts.ps lts.r lts.xs lts.m lts.hs lts.body _ (λ κs qs bs bd. lts.typed reads.Pre reads.Post κs qs 𝓛 𝓣 bs bd) reads.Pre reads.Post
     (λ κs qs a good pre bs. row_of x_table 0 64 a.0 table_rule (lit≤ tt) pre.0 pre.1))

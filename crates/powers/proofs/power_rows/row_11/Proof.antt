@@ -9,8 +9,8 @@ use Rattle.powers.proofs.power_rows.row_11.Tie as tie
 use Rattle.powers.proofs.power_rows.row_11.Lts as lts
 use Rattle.powers.proofs.power_rows.row_11.Reads as reads
 
-pub row-11-spec : {M : Type 1} → statement M
-row-11-spec =
+pub row_11_spec : {M : Type 1} → statement M
+row_11_spec =
     tie.close
-    (λ 𝓛 𝓣. t_fn_plain 𝓛 𝓣 0 lts.ps lts.r lts.xs lts.m lts.hs lts.body _ (λ κs qs bs. lts.typed reads.Pre reads.Post κs qs 𝓛 𝓣 bs) reads.Pre reads.Post
+    (λ 𝓤 𝓛 𝓣. t_fn_plain 𝓛 𝓣 0 lts.ps lts.r lts.xs lts.m lts.hs lts.body _ (λ κs qs bs bd. lts.typed reads.Pre reads.Post κs qs 𝓛 𝓣 bs bd) reads.Pre reads.Post
     (λ κs qs a good pre bs. row_of x_table 704 64 a.0 table_rule (lit≤ tt) pre.0 pre.1))

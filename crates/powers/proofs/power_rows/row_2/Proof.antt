@@ -9,8 +9,8 @@ use Rattle.powers.proofs.power_rows.row_2.Tie as tie
 use Rattle.powers.proofs.power_rows.row_2.Lts as lts
 use Rattle.powers.proofs.power_rows.row_2.Reads as reads
 
-pub row-2-spec : {M : Type 1} → statement M
-row-2-spec =
+pub row_2_spec : {M : Type 1} → statement M
+row_2_spec =
     tie.close
-    (λ 𝓛 𝓣. t_fn_plain 𝓛 𝓣 0 lts.ps lts.r lts.xs lts.m lts.hs lts.body _ (λ κs qs bs. lts.typed reads.Pre reads.Post κs qs 𝓛 𝓣 bs) reads.Pre reads.Post
+    (λ 𝓤 𝓛 𝓣. t_fn_plain 𝓛 𝓣 0 lts.ps lts.r lts.xs lts.m lts.hs lts.body _ (λ κs qs bs bd. lts.typed reads.Pre reads.Post κs qs 𝓛 𝓣 bs bd) reads.Pre reads.Post
     (λ κs qs a good pre bs. row_of x_table 128 64 a.0 table_rule (lit≤ tt) pre.0 pre.1))

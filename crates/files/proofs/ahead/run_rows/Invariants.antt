@@ -1,0 +1,12 @@
+-- `files::ahead::run_rows` meets its contract: each turn is a row more.
+-- Assumes nothing.
+use Rattle.files.specs.device.Ahead.{WayReady, RowsRan}
+use lib.ListN.{length}
+use Prim.Native.Nat.{◌-◌}
+use Rattle.files.proofs.ahead.run_rows.Given as goal
+
+abbrev pub invariant-loop-next : goal.invariant-loop-next
+invariant-loop-next l = RowsRan l.plan.settings l.initial.way l.portion l.from l.initial.out l.out l.at (record { way = l.way; next = l.next; written = l.written }) × WayReady l.plan l.way
+
+abbrev pub decreases-loop-next : goal.decreases-loop-next
+decreases-loop-next l = length l.portion - l.next

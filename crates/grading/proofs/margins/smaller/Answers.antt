@@ -1,0 +1,12 @@
+-- `grading::margins::smaller` meets its contract.
+-- Assumes nothing.
+use Rattle.grading.proofs.PassLaws.{smaller_by}
+use Rattle.grading.proofs.margins.smaller.Goals as goal
+
+pub returns-then-before-difference : goal.returns-then-before-difference
+returns-then-before-difference c =
+    smaller_by c.args.before c.args.difference c.args.ratio _ c.ranges.difference (record { sfits = c.struct_told-1.given.0.1 }) c.if-before-difference.true
+
+pub returns : goal.returns
+returns c =
+    smaller_by c.args.before c.args.difference c.args.ratio _ c.ranges.difference (record { sfits = c.struct_told-1.given.0.1 }) c.if-before-difference.false

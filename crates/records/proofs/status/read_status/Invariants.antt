@@ -1,0 +1,11 @@
+-- `records::status::read_status` meets its contract: from the last field to the first.
+-- Assumes nothing.
+use Prim.Native.Nat.{◌-◌}
+use Rattle.records.proofs.StatusLaws.{StatusTurn}
+use Rattle.records.proofs.status.read_status.Given as goal
+
+abbrev pub invariant-loop-k : goal.invariant-loop-k
+invariant-loop-k l = StatusTurn l.fields l.k l.byte
+
+abbrev pub decreases-loop-k : goal.decreases-loop-k
+decreases-loop-k l = l.k

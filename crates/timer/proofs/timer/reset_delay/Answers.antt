@@ -1,0 +1,14 @@
+-- `timer::timer::reset_delay` meets its contract.
+-- Assumes nothing.
+use Rattle.timer.specs.Timer.{timer_answer}
+use Rattle.timer.proofs.timer.reset_delay.Goals as goal
+
+pub returns : goal.returns
+unfolding timer_answer
+returns c =
+    rw (
+      c.answered.ensures,
+      c.refusal_of.ensures,
+      c.reset_delay_rule-ruled.ensures,
+      c.input_of.ensures,
+    )
