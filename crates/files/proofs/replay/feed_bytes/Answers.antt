@@ -45,7 +45,7 @@ closed c =
     let k = c.cut-piece in
     let s : Replay = record { form = a.state.form; progress = l.progress; cutter = l.cutter } in
     let t = c.on_held-t in
-    turn_closed a.state a.portion.now a.out.now l.i s l.at l.out l.invariant more k.result k.ensures c.in-Closed.is t.result t.new.1.1.1.1.0 t.ensures
+    turn_closed a.state a.portion.now a.out.now l.i s l.at l.out l.invariant more k.result k.ensures c.in-Closed.is t.result t.new.out t.ensures
 
 pub run_ahead-ahead-requires : goal.run_ahead-ahead-requires
 run_ahead-ahead-requires c =
@@ -81,7 +81,7 @@ shape_of-out-in-TooLong c =
     let a = c.args in
     let l = c.loop-i in
     let t = c.on_held-t-in-TooLong in
-    let long : length t.new.1.1.1.1.0 ≡ length a.out.now = ap length t.ensures.output ∙ simp length-sets l.invariant.long in
+    let long : length t.new.out ≡ length a.out.now = ap length t.ensures.output ∙ simp length-sets l.invariant.long in
     omega (arith, long)
 
 pub returns-in-TooLong : goal.returns-in-TooLong
@@ -92,7 +92,7 @@ returns-in-TooLong c =
     let k = c.cut-piece in
     let s : Replay = record { form = a.state.form; progress = l.progress; cutter = l.cutter } in
     let t = c.on_held-t-in-TooLong in
-    turn_long a.state a.portion.now a.out.now l.i s l.at l.out l.invariant more k.result k.ensures c.in-TooLong.is t.result t.new.1.1.1.1.0 t.ensures c.taken-in-TooLong.result (rw c.empty.ensures at c.taken-in-TooLong.ensures)
+    turn_long a.state a.portion.now a.out.now l.i s l.at l.out l.invariant more k.result k.ensures c.in-TooLong.is t.result t.new.out t.ensures c.taken-in-TooLong.result (rw c.empty.ensures at c.taken-in-TooLong.ensures)
 
 pub returns : goal.returns
 returns c =

@@ -7,4 +7,4 @@ pub returns : goal.returns
 returns c =
     let a = c.args in
     let w = c.write_row-written in
-    record_written a.done a.x a.outputs a.at a.out.now w.new.0 w.result c.requires w.ensures
+    record_written a.done a.x a.outputs a.at a.out.now w.new.out w.result c.requires w.ensures

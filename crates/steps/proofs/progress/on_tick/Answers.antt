@@ -26,6 +26,6 @@ returns c =
     let n = c.note_row-end in
     record {
       noted = tick_noted a.form a.p a.x a.t e k.result n.result a.at k.ensures n.ensures.wrote.place_after;
-      output = tick_output a.form a.p a.x a.t e a.out.now n.new.1.0 a.at n.ensures.wrote.output;
+      output = tick_output a.form a.p a.x a.t e a.out.now n.new.out a.at n.ensures.wrote.output;
       short = n.ensures.short;
     }

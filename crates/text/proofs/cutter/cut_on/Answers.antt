@@ -17,7 +17,7 @@ loop-i-preserved c =
     let here : Cutter = record { held = l.held; count = l.n } in
     let more = c.loop-i-test.true in
     let on = sym c.goes_on.ensures ∙ c.if-goes_on.true in
-    turn_on a.closer a.limit a.cutter a.portion.now a.from here l.i l.invariant more k.new.0 k.result k.ensures on
+    turn_on a.closer a.limit a.cutter a.portion.now a.from here l.i l.invariant more k.new.held k.result k.ensures on
 
 pub returns-in-loop-i : goal.returns-in-loop-i
 returns-in-loop-i c =
@@ -27,7 +27,7 @@ returns-in-loop-i c =
     let here : Cutter = record { held = l.held; count = l.n } in
     let more = c.loop-i-test.true in
     let done = sym c.goes_on.ensures ∙ c.if-goes_on.false in
-    c.piece.ensures ∙ turn_done a.closer a.limit a.cutter a.portion.now a.from here l.i l.invariant more k.new.0 k.result k.ensures done
+    c.piece.ensures ∙ turn_done a.closer a.limit a.cutter a.portion.now a.from here l.i l.invariant more k.new.held k.result k.ensures done
 
 pub returns : goal.returns
 returns c =
