@@ -1,5 +1,4 @@
 use mathlib.Core.Path.{refl, sym}
-use Prim.Native.Nat.{◌-◌}
 use native.Mathlib.Omega.{arith}
 use Rattle.text.proofs.DecimalsLaws.{counted_none, counted_more, counted_all, line_longest}
 use Rattle.text.proofs.decimals.line_length.Goals as goal

@@ -1,4 +1,3 @@
-use Prim.Native.Nat.{◌-◌}
 use native.Mathlib.Omega.{arith}
 use Rattle.text.proofs.WordsLaws.{words_none, words_more, words_all}
 use Rattle.text.proofs.words.put_words.Goals as goal
