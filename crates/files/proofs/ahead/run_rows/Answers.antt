@@ -21,7 +21,7 @@ same_long c =
 front_here : (c : goal.Else-not-front) → AtFront c.args.portion.now c.loop-next.next c.loop-next.way.done c.read_front-front.result
 front_here c =
     let f = c.read_front-front in
-    rw f.ensures (at_front _ _ _ (sym (ap (λ (x : Front). x.right) f.ensures) ∙ not-false f.result.right c.if-not-front.false))
+    rw f.ensures (at_front _ _ _ (sym (ap (λ (x : Front). x.right) f.ensures) ∙ c.if-not-front.false))
 
 pub loop-next-init : goal.loop-next-init
 loop-next-init c = (rows_first _ _ _ _ _ _ c.requires.1, c.requires.0)

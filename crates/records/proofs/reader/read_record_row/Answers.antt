@@ -37,7 +37,7 @@ returns-then-not-status c =
     let a = c.args in
     let l = c.read_line-line in
     let s = c.read_status-status in
-    record_told _ a.row.now a.last (ap Refused c.refuse-then-not-status.ensures ∙ record_wrong_status a.row.now a.last l.result l.ensures c.in_default.is c.if-n-last.false s.result s.ensures (not-true s.result.right c.if-not-status.true))
+    record_told _ a.row.now a.last (ap Refused c.refuse-then-not-status.ensures ∙ record_wrong_status a.row.now a.last l.result l.ensures c.in_default.is c.if-n-last.false s.result s.ensures c.if-not-status.true)
 
 -- the number of a field fits its width
 fits : (c : lts.Else2 (line.Asked, line.Learnt, refuse-shape.Asked, refuse-shape.Learnt, refuse.Asked, refuse.Learnt, status.Asked, status.Learnt) reads.Pre reads.Post) (k : ℕ)
@@ -64,4 +64,4 @@ returns c =
     let a = c.args in
     let l = c.read_line-line in
     let s = c.read_status-status in
-    record_told _ a.row.now a.last (record_accepted a.row.now a.last l.result l.ensures c.in_default.is c.if-n-last.false s.result s.ensures (not-false s.result.right c.if-not-status.false))
+    record_told _ a.row.now a.last (record_accepted a.row.now a.last l.result l.ensures c.in_default.is c.if-n-last.false s.result s.ensures c.if-not-status.false)

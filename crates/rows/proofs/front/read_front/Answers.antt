@@ -14,7 +14,7 @@ pub returns-then-not-has_room : goal.returns-then-not-has_room
 returns-then-not-has_room c =
     let a = c.args in
     let r = c.has_room in
-    c.no_front.ensures ∙ front_late a.s.now a.at a.last (sym r.ensures ∙ not-true r.result c.if-not-has_room.true)
+    c.no_front.ensures ∙ front_late a.s.now a.at a.last (sym r.ensures ∙ c.if-not-has_room.true)
 
 -- past the first test
 room_there : (c : lts.Else1 (room.Asked, room.Learnt, none.Asked, none.Learnt, fields.Asked, fields.Learnt) reads.Pre reads.Post)
@@ -30,10 +30,10 @@ pub returns-then-not-front-number : goal.returns-then-not-front-number
 returns-then-not-front-number c =
     let a = c.args in
     let x = c.read_fields-front in
-    c.no_front-then-not-front-number.ensures ∙ front_other a.s.now a.at a.last (room_there c) x.result x.ensures (not-true _ c.if-not-front-number.true)
+    c.no_front-then-not-front-number.ensures ∙ front_other a.s.now a.at a.last (room_there c) x.result x.ensures c.if-not-front-number.true
 
 pub returns : goal.returns
 returns c =
     let a = c.args in
     let x = c.read_fields-front in
-    front_next a.s.now a.at a.last (room_there c) x.result x.ensures (not-false _ c.if-not-front-number.false)
+    front_next a.s.now a.at a.last (room_there c) x.result x.ensures c.if-not-front-number.false
