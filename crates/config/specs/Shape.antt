@@ -25,17 +25,17 @@ analogue_fields index =
 abbrev pub shapes : List Shape
 shapes =
     shape refusals.station (Text 0 64 ∷ Text 0 64 ∷ Whole 4 4 1999 1999 ∷ [])
-    ∷ shape refusals.channelCounts (Whole 1 7 4 4 ∷ Channels 3 65 ∷ Channels 1 68 ∷ [])
+    ∷ shape refusals.channel_counts (Whole 1 7 4 4 ∷ Channels 3 65 ∷ Channels 1 68 ∷ [])
     ∷ shape refusals.analogue (analogue_fields 1)
     ∷ shape refusals.analogue (analogue_fields 2)
     ∷ shape refusals.analogue (analogue_fields 3)
     ∷ shape refusals.status (channel 1 (Whole 1 1 0 1 ∷ []))
     ∷ shape refusals.frequency (NumberOrNothing ∷ [])
-    ∷ shape refusals.numberOfRates (Whole 1 3 1 1 ∷ [])
+    ∷ shape refusals.number_of_rates (Whole 1 3 1 1 ∷ [])
     ∷ shape refusals.rate (Decimal 1000 ∷ Whole 1 10 1 9999999999 ∷ [])
     ∷ shape refusals.date (Date ∷ Time ∷ [])
     ∷ shape refusals.date (Date ∷ Time ∷ [])
-    ∷ shape refusals.fileType (Ascii ∷ [])
+    ∷ shape refusals.file_type (Ascii ∷ [])
     ∷ shape refusals.multiplier (Number ∷ [])
     ∷ []
 

@@ -15,7 +15,6 @@ use Rattle.faults.specs.declared.fault.Fault.{Fault}
 use Rattle.faults.specs.declared.fault.Flaw.TheVariants.{DigitTooMany, LineEnd}
 use Rattle.faults.specs.declared.fault.Shape.{Shape}
 use Rattle.faults.specs.declared.fault.Shape.TheVariants.{Right, Wrong}
-use Rattle.faults.specs.declared.reader.Line.{Line}
 use Rattle.faults.specs.declared.reader.Closing.{Closing}
 use Rattle.faults.specs.declared.reader.Closing.TheVariants.{Next, Last, Flawed}
 use Rattle.text.specs.Number.{digit_limit, is_digit, value_from, value_of}

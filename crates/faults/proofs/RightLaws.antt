@@ -14,7 +14,6 @@ use Rattle.faults.specs.declared.fault.Flaw.TheVariants.{LineEnd}
 use Rattle.faults.specs.declared.fault.Fault.{Fault}
 use Rattle.faults.specs.declared.fault.Shape.{Shape}
 use Rattle.faults.specs.declared.fault.Shape.TheVariants.{Right, Wrong}
-use Rattle.faults.specs.declared.reader.Closing.{Closing}
 use Rattle.faults.specs.declared.reader.Closing.TheVariants.{Last}
 use Rattle.text.specs.Number.{is_digit, leading}
 use Rattle.text.specs.Line.{comma, cr, lf, is_lf, right_shape}

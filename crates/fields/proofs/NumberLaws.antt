@@ -17,7 +17,7 @@ use Rattle.text.proofs.ValueLaws.{whole_worth}
 use Rattle.fields.specs.Marks.{has, before, after, begins_with}
 use Rattle.fields.specs.Number.{is_whole, minus, point, sign_fits, some_digits, is_of_value, is_nothing, whole_then, optionally, is_unsigned_decimal}
 use Rattle.fields.specs.device.Calls.{MarkFound, whole_lead, WholeLeads, large_value}
-use Rattle.fields.proofs.MarkLaws.{front, rest as m-rest, marked, markless, nothing_after, after_none, after_dropped}
+use Rattle.fields.proofs.MarkLaws.{front, rest as m_rest, marked, markless, nothing_after, after_none, after_dropped}
 
 -- ---- a whole number
 

@@ -1,9 +1,8 @@
 use mathlib.Core.Path.{sym, ◌∙◌, ap}
-use Prim.Native.Nat.{◌+◌, ◌-◌, ◌<◌}
+use Prim.Native.Nat.{◌+◌, ◌<◌}
 use Rattle.fields.specs.declared.field.Field.{Field}
 use Rattle.fields.specs.device.Calls.{readable}
 use native.Mathlib.Omega.{arith}
-use borrow.Author.Tests.{not-true, not-false}
 use Rattle.config.specs.device.Layout.{field_count}
 use Rattle.config.proofs.LineLaws.{turn_first, turn_wrong, turn_last, turn_next, turn_over, field_readable, begins_first}
 use Rattle.config.proofs.line.fields_fit.Goals as goal
@@ -36,19 +35,19 @@ pub returns-then-not-part_fits : goal.returns-then-not-part_fits
 returns-then-not-part_fits c =
     let a = c.args in
     turn_wrong a.s.now a.first a.count _ _ c.loop-k.invariant c.requires c.loop-k-test.true _ c.field_end-end.ensures _ c.field_at-field.ensures
-    (sym c.part_fits.ensures ∙ not-true _ c.if-not-part_fits.true)
+    (sym c.part_fits.ensures ∙ c.if-not-part_fits.true)
 
 pub returns-then-end-s : goal.returns-then-end-s
 returns-then-end-s c =
     let a = c.args in
     turn_last a.s.now a.first a.count _ _ c.loop-k.invariant c.requires c.loop-k-test.true _ c.field_end-end.ensures _ c.field_at-field.ensures
-    (sym c.part_fits.ensures ∙ not-false _ c.if-not-part_fits.false) c.if-end-s.true
+    (sym c.part_fits.ensures ∙ c.if-not-part_fits.false) c.if-end-s.true
 
 pub loop-k-preserved : goal.loop-k-preserved
 loop-k-preserved c =
     let a = c.args in
     turn_next a.s.now a.first a.count _ _ c.loop-k.invariant c.requires c.loop-k-test.true _ c.field_end-end.ensures _ c.field_at-field.ensures
-    (sym c.part_fits.ensures ∙ not-false _ c.if-not-part_fits.false) c.if-end-s.false
+    (sym c.part_fits.ensures ∙ c.if-not-part_fits.false) c.if-end-s.false
 
 pub returns : goal.returns
 returns c =

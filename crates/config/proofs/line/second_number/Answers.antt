@@ -11,8 +11,8 @@ use Rattle.config.proofs.line.second_number.Goals as goal
 pub slice_bounds-spaces-count : goal.slice_bounds-spaces-count
 slice_bounds-spaces-count c = omega (arith, comma_inside c.args.s.now c.requires c.until-at.result c.until-at.ensures)
 
--- LEFT slice-bounds-spaces-start
--- omega (arith, comma_inside c.before.before.args.s.now c.before.before.requires c.until.result c.until.ensures)
+pub slice_bounds-spaces-start : goal.slice_bounds-spaces-start
+slice_bounds-spaces-start c = omega (arith, comma_inside c.args.s.now c.requires c.until-at.result c.until-at.ensures)
 
 pub read_digits-d-requires : goal.read_digits-d-requires
 read_digits-d-requires c =

@@ -4,6 +4,7 @@ use mathlib.Core.Path.{sym, ap, ◌∙◌}
 use Prim.Native.Nat.{ℕ}
 use native.Mathlib.Omega.{arith}
 use lib.Dec.{eqb}
+use borrow.Author.Tests.{eq-eqb, ne_eqb}
 use lib.ListN.{drop}
 use Rattle.text.specs.Line.{comma}
 use Rattle.faults.proofs.ClosingLaws.{begins_by, closes_stray, closes_empty, closes_miscounted, closes_next, closes_ending}
@@ -31,11 +32,11 @@ returns-then-comma c =
     let a = c.args in
     let e = sym c.closes_none.ensures ∙ c.if-closes_none.false in
     let b = c.byte_at-comma in
-    closes_next (drop a.at a.s.now) a.last a.digits a.at a.field e c.if-digits-eq0.false (begins_by a.s.now a.at comma (λ z. omega arith) ∙ ap (λ (n : ℕ). eqb n comma) (sym b.ensures) ∙ c.if-comma.true) (rw c.if-comma.true at c.if-comma-last.false)
+    closes_next (drop a.at a.s.now) a.last a.digits a.at a.field e c.if-digits-eq0.false (begins_by a.s.now a.at comma (λ z. omega arith) ∙ ap (λ (n : ℕ). eqb n comma) (sym b.ensures) ∙ eq-eqb _ _ c.if-comma.true) (rw (eq-eqb b.result comma c.if-comma.true) at c.if-comma-last.false)
 
 pub returns : goal.returns
 returns c =
     let a = c.args in
     let e = sym c.closes_none.ensures ∙ c.if-closes_none.false in
     let b = c.byte_at-comma in
-    c.ending.ensures ∙ closes_ending (drop a.at a.s.now) a.last a.digits a.at a.field e c.if-digits-eq0.false (begins_by a.s.now a.at comma (λ z. omega arith) ∙ ap (λ (n : ℕ). eqb n comma) (sym b.ensures) ∙ c.if-comma.false) (rw c.if-comma.false at c.if-comma-last.false)
+    c.ending.ensures ∙ closes_ending (drop a.at a.s.now) a.last a.digits a.at a.field e c.if-digits-eq0.false (begins_by a.s.now a.at comma (λ z. omega arith) ∙ ap (λ (n : ℕ). eqb n comma) (sym b.ensures) ∙ ne_eqb _ _ c.if-comma.false) (rw (ne_eqb b.result comma c.if-comma.false) at c.if-comma-last.false)

@@ -1,5 +1,4 @@
 use mathlib.Core.Path.{refl, sym, ◌∙◌}
-use Prim.Native.Nat.{◌-◌}
 use native.Mathlib.Omega.{arith}
 use Rattle.fields.proofs.FieldLaws.{other_length, letter_on, other_letter, word_end}
 use Rattle.fields.proofs.field.is_word.Goals as goal

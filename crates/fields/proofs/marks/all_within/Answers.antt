@@ -1,5 +1,4 @@
 use mathlib.Core.Path.{refl, sym, ◌∙◌}
-use Prim.Native.Nat.{◌-◌}
 use native.Mathlib.Omega.{arith}
 use Rattle.fields.proofs.MarkLaws.{within_on, too_low, too_high, within_end}
 use Rattle.fields.proofs.marks.all_within.Goals as goal

@@ -1,5 +1,4 @@
 use mathlib.Core.Path.{refl, sym, ◌∙◌}
-use Prim.Native.Nat.{◌-◌}
 use native.Mathlib.Omega.{arith}
 use Rattle.fields.proofs.MarkLaws.{space_here, no_space_here, nothing_spaced}
 use Rattle.fields.proofs.marks.spaces.Goals as goal

@@ -1,4 +1,3 @@
-use Prim.Native.Nat.{◌-◌}
 use native.Mathlib.Omega.{arith}
 use lib.ListN.{get_or}
 use Rattle.fields.proofs.MarkLaws.{mark_here, mark_later, no_mark, is_first, is_second, is_none}

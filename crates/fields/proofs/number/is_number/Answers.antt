@@ -4,7 +4,7 @@ use mathlib.Core.Path.{sym, ap, ◌∙◌}
 use Prim.Native.Nat.{◌+◌}
 use native.Mathlib.Omega.{arith}
 use lib.ListN.{length}
-use borrow.Author.Tests.{not-true, not-false, le-leb, lt-leb}
+use borrow.Author.Tests.{le-leb, lt-leb}
 use Rattle.fields.specs.Number.{small_e, capital_e, longest_number, is_decimal, is_exponent}
 use Rattle.fields.proofs.MarkLaws.{part_length, tail_part, refused_first, passed_first}
 use Rattle.fields.proofs.NumberLaws.{not_first, first_alone, first_and_rest}
@@ -19,13 +19,13 @@ slice_bounds-is_decimal-end c = part_length c.args.s.now _ c.until-n.ensures.wit
 pub returns-then-not-is_decimal : goal.returns-then-not-is_decimal
 returns-then-not-is_decimal c =
     passed_first _ _ _ (le-leb (length c.args.s.now) longest_number (omega (arith, c.if-s-gt-LONGEST_NUMBER.false)))
-    (not_first small_e capital_e is_decimal is_exponent c.args.s.now _ c.until-n.ensures (sym c.is_decimal.ensures ∙ not-true _ c.if-not-is_decimal.true))
+    (not_first small_e capital_e is_decimal is_exponent c.args.s.now _ c.until-n.ensures (sym c.is_decimal.ensures ∙ c.if-not-is_decimal.true))
 
 pub returns-then-n-s : goal.returns-then-n-s
 returns-then-n-s c =
     passed_first _ _ _ (le-leb (length c.args.s.now) longest_number (omega (arith, c.if-s-gt-LONGEST_NUMBER.false)))
     (first_alone small_e capital_e is_decimal is_exponent c.args.s.now _ c.until-n.ensures
-    (sym c.is_decimal.ensures ∙ not-false _ c.if-not-is_decimal.false) c.if-n-s.true)
+    (sym c.is_decimal.ensures ∙ c.if-not-is_decimal.false) c.if-n-s.true)
 
 pub returns : goal.returns
 returns c =
@@ -33,4 +33,4 @@ returns c =
     (c.is_exponent.ensures
     ∙ ap is_exponent (tail_part c.args.s.now (c.until-n.result + 1))
     ∙ first_and_rest small_e capital_e is_decimal is_exponent c.args.s.now _ c.until-n.ensures
-    (sym c.is_decimal.ensures ∙ not-false _ c.if-not-is_decimal.false) c.if-n-s.false)
+    (sym c.is_decimal.ensures ∙ c.if-not-is_decimal.false) c.if-n-s.false)

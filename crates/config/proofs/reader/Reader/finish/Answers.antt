@@ -13,7 +13,7 @@ returns-then-refusal-eq0 c =
     let last = c.last_reading-last in
     let number : end_refusal last.result ≡ 0 = sym c.end_refusal-refusal.ensures ∙ c.if-refusal-eq0.true in
     let answer : Accepted last.result.last ≡ answer_of last.result = rw (eq-eqb (end_refusal last.result) 0 number) in
-    (answer ∙ ap answer_of last.ensures, sym number ∙ ap end_refusal last.ensures)
+    record { answer = answer ∙ ap answer_of last.ensures; number = sym number ∙ ap end_refusal last.ensures }
 
 pub returns : goal.returns
 returns c =
@@ -21,4 +21,4 @@ returns c =
     let number = c.end_refusal-refusal.ensures in
     let some : end_refusal last.result ≡ 0 → ⊥ = λ e. c.if-refusal-eq0.false (number ∙ e) in
     let answer : refused_at (end_refusal last.result) last.result.line ≡ answer_of last.result = rw (ne_eqb (end_refusal last.result) 0 some) in
-    (ap (λ (n : ℕ). refused_at n last.result.line) number ∙ answer ∙ ap answer_of last.ensures, number ∙ ap end_refusal last.ensures)
+    record { answer = ap (λ (n : ℕ). refused_at n last.result.line) number ∙ answer ∙ ap answer_of last.ensures; number = number ∙ ap end_refusal last.ensures }
