@@ -16,7 +16,7 @@ use Rattle.faults.proofs.RightLaws.{Faulty, wrong_faulty}
 use Rattle.faults.proofs.PlaceLaws.{offset_near, long_front_decides}
 use Rattle.checks.proofs.Cases.{not_true}
 use Rattle.rows.specs.declared.row.RowRead.TheVariants as row
-use Rattle.rows.specs.declared.settings_line.SettingsRead.TheVariants as settings-line
+use Rattle.rows.specs.declared.settings_line.SettingsRead.TheVariants as settings_line
 use Rattle.rows.specs.Refusal.{misshapen}
 use Rattle.rows.specs.Row.{row_answer}
 use Rattle.rows.specs.Widths.{row_widths, settings_widths}

@@ -6,40 +6,47 @@ use lib.ListN.{length}
 use Rattle.rows.proofs.FrontReading.{fields_read}
 use Rattle.rows.proofs.front.read_fields.Goals as goal
 
--- the place of LF
-within : (c : lts.After-read-field6 (field.Asked, field.Learnt) reads.Pre reads.Post) → c.read-field6.result.next + 2 ≤ length c.before.before.before.before.before.before.before.args.s.now
-within c =
+pub bounds-s-end : goal.bounds-s-end
+bounds-s-end c = 
     omega (
       arith,
-      c.before.before.before.before.before.before.before.requires,
-      c.before.before.before.before.before.read-field.ensures.1.0,
-      c.before.before.before.before.read-field2.ensures.1.0,
-      c.before.before.before.read-field3.ensures.1.0,
-      c.before.before.read-field4.ensures.1.0,
-      c.before.read-field5.ensures.1.0,
-      c.read-field6.ensures.1.0,
+      c.requires,
+      c.read_field-number.ensures.near,
+      c.read_field-stamp.ensures.near,
+      c.read_field-l1.ensures.near,
+      c.read_field-l2.ensures.near,
+      c.read_field-l3.ensures.near,
+      c.read_field-block.ensures.near,
     )
 
-pub bounds-s-end : goal.bounds-s-end
-bounds-s-end c = omega (arith, within c)
-
 pub overflow_cast-result : goal.overflow_cast-result
-overflow_cast-result c = omega (arith, c.read_field-number.ensures.1.1)
+overflow_cast-result c = omega (arith, c.read_field-number.ensures.small)
 
 pub overflow_cast-result-2 : goal.overflow_cast-result-2
-overflow_cast-result-2 c = omega (arith, c.read_field-l1.ensures.1.1)
+overflow_cast-result-2 c = omega (arith, c.read_field-l1.ensures.small)
 
 pub overflow_cast-result-3 : goal.overflow_cast-result-3
-overflow_cast-result-3 c = omega (arith, c.read_field-l2.ensures.1.1)
+overflow_cast-result-3 c = omega (arith, c.read_field-l2.ensures.small)
 
 pub overflow_cast-result-4 : goal.overflow_cast-result-4
-overflow_cast-result-4 c = omega (arith, c.read_field-l3.ensures.1.1)
+overflow_cast-result-4 c = omega (arith, c.read_field-l3.ensures.small)
 
 pub overflow_cast-result-5 : goal.overflow_cast-result-5
-overflow_cast-result-5 c = omega (arith, c.read_field-block.ensures.1.1)
+overflow_cast-result-5 c = omega (arith, c.read_field-block.ensures.small)
 
 pub overflow_add-result : goal.overflow_add-result
-overflow_add-result c = omega (arith, within c, c.well-formed)
+overflow_add-result c = 
+    omega (
+      arith,
+      c.type_inv,
+      c.requires,
+      c.read_field-number.ensures.near,
+      c.read_field-stamp.ensures.near,
+      c.read_field-l1.ensures.near,
+      c.read_field-l2.ensures.near,
+      c.read_field-l3.ensures.near,
+      c.read_field-block.ensures.near,
+    )
 
 pub returns : goal.returns
 returns c =
@@ -51,9 +58,9 @@ returns c =
     c.read_field-l2.result
     c.read_field-l3.result
     c.read_field-block.result
-    c.read_field-number.ensures.0
-    c.read_field-stamp.ensures.0
-    c.read_field-l1.ensures.0
-    c.read_field-l2.ensures.0
-    c.read_field-l3.ensures.0
-    c.read_field-block.ensures.0
+    c.read_field-number.ensures.answer
+    c.read_field-stamp.ensures.answer
+    c.read_field-l1.ensures.answer
+    c.read_field-l2.ensures.answer
+    c.read_field-l3.ensures.answer
+    c.read_field-block.ensures.answer

@@ -16,24 +16,19 @@ returns-then-not-has_room c =
     let r = c.has_room in
     c.no_front.ensures ∙ front_late a.s.now a.at a.last (sym r.ensures ∙ c.if-not-has_room.true)
 
--- past the first test
-room_there : (c : lts.Else1 (room.Asked, room.Learnt, none.Asked, none.Learnt, fields.Asked, fields.Learnt) reads.Pre reads.Post)
-    → leb (c.before.before.before.args.at + front_room) (length c.before.before.before.args.s.now) ≡ true
-room_there c = let r = c.before.has_room in sym r.ensures ∙ not-false r.result c.if1.false
-
 pub read_fields-front-requires : goal.read_fields-front-requires
 read_fields-front-requires c =
     let a = c.args in
-    leb-true (a.at + front_room) (length a.s.now) (room_there c)
+    leb-true (a.at + front_room) (length a.s.now) (sym c.has_room.ensures ∙ c.if-not-has_room.false)
 
 pub returns-then-not-front-number : goal.returns-then-not-front-number
 returns-then-not-front-number c =
     let a = c.args in
     let x = c.read_fields-front in
-    c.no_front-then-not-front-number.ensures ∙ front_other a.s.now a.at a.last (room_there c) x.result x.ensures c.if-not-front-number.true
+    c.no_front-then-not-front-number.ensures ∙ front_other a.s.now a.at a.last (sym c.has_room.ensures ∙ c.if-not-has_room.false) x.result x.ensures c.if-not-front-number.true
 
 pub returns : goal.returns
 returns c =
     let a = c.args in
     let x = c.read_fields-front in
-    front_next a.s.now a.at a.last (room_there c) x.result x.ensures c.if-not-front-number.false
+    front_next a.s.now a.at a.last (sym c.has_room.ensures ∙ c.if-not-has_room.false) x.result x.ensures c.if-not-front-number.false
