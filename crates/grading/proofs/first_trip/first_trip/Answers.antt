@@ -21,7 +21,11 @@ nonzero_div-turns c =
     rw c.gain_of-gain.ensures (gains a.settings trips a.ratio low high)
 
 pub overflow_sub-turns : goal.overflow_sub-turns
-overflow_sub-turns c = omega (arith, div-turns c)
+overflow_sub-turns c =
+    let a = c.args in
+    let (trips, low, high) = c.requires in
+    let some : 0 < c.gain_of-gain.result = rw c.gain_of-gain.ensures (gains a.settings trips a.ratio low high) in
+    omega arith
 
 pub overflow_add-turns : goal.overflow_add-turns
 overflow_add-turns c =

@@ -13,5 +13,8 @@ difference-apart-requires c =
 pub returns : goal.returns
 returns c =
     let a = c.args in
-    let (above, below) = difference-requires c tt in
-    margin_by_trips a.upstream a.downstream a.ratio _ _ _ c.first_trip-above.ensures c.first_trip-below.ensures above below c.difference-apart.ensures
+    let (pair, low, high) = c.requires in
+    margin_by_trips a.upstream a.downstream a.ratio _ _ _ c.first_trip-above.ensures c.first_trip-below.ensures
+    (rw c.first_trip-above.ensures (first_trip_is a.upstream pair.above a.ratio low high).high)
+    (rw c.first_trip-below.ensures (first_trip_is a.downstream pair.below a.ratio low high).high)
+    c.difference-apart.ensures

@@ -1,4 +1,3 @@
-use Prim.Native.Nat.{◌-◌}
 use native.Mathlib.Omega.{arith}
 use mathlib.Core.Path.{refl, ◌∙◌, ap}
 use lib.IntN.{ℤ}
@@ -6,6 +5,7 @@ use lib.Signed.{lt_z}
 use mir.Syntax.{w64}
 use mir.Val.{to_z, of_z}
 use mir.ValLaws.{to_z-of_z}
+use borrow.Author.Rules.{rules}
 use Rattle.grading.specs.Margin.{difference_at}
 use Rattle.grading.specs.Margins.{margins_of}
 use Rattle.grading.specs.device.Pass.{counted, smaller_of}
@@ -32,7 +32,7 @@ loop-ratio-smaller c = omega (arith, c.loop-ratio-test.true)
 
 pub loop-ratio-preserved : goal.loop-ratio-preserved
 loop-ratio-preserved c =
-    let z = difference_of c.args.upstream c.args.downstream c.loop-ratio.ratio c.margin_ready-margin.result c.margin_ready-margin.ensures (record { sfits = c.struct_told-1.given.1.1.1.0.1 }) in
+    let z = difference_of c.args.upstream c.args.downstream c.loop-ratio.ratio c.margin_ready-margin.result c.margin_ready-margin.ensures (search rules) in
     pass_again _ _ _ _ _ _ _ c.loop-ratio.invariant c.requires.1 (omega (arith, c.loop-ratio-test.true)) _ _ _
     (c.smaller-next.ensures ∙ ap (λ (d : ℤ). smaller_of c.loop-ratio.smallest d c.loop-ratio.ratio) z)
     (c.list_ratio-count.ensures ∙ ap (λ (d : ℤ). counted c.loop-ratio.list c.loop-ratio.count c.loop-ratio.ratio (lt_z d (to_z w64 (of_z w64 c.args.wanted)))) z)
@@ -45,6 +45,6 @@ pub returns : goal.returns
 returns c =
     let up = c.args.upstream in
     let down = c.args.downstream in
-    ap (λ (z : ℤ). answer_of z c.loop-ratio.smallest.ratio (record { count = c.loop-ratio.count; list = c.loop-ratio.list })) (to_z-of_z w64 c.loop-ratio.smallest.difference (record { sfits = c.struct_told-2-1.given.0.1 }))
+    ap (λ (z : ℤ). answer_of z c.loop-ratio.smallest.ratio (record { count = c.loop-ratio.count; list = c.loop-ratio.list })) (to_z-of_z w64 c.loop-ratio.smallest.difference (search rules))
     ∙ pass_ends up down _ _ _ _ _ _ c.loop-ratio.invariant (omega (arith, c.loop-ratio-test.false))
     ∙ ap (λ (w : ℤ). margins_of up down w c.args.list.now) (to_z-of_z w64 c.args.wanted c.ranges.wanted)

@@ -1,6 +1,6 @@
 -- `jumps::first_trip::first_full` meets its contract: to the ratio 100 the sum waits alone, from 101 on there is a gain to divide by.
 -- Assumes nothing.
-use Prim.Native.Nat.{◌+◌, ◌-◌, ◌/◌, max}
+use Prim.Native.Nat.{◌+◌, ◌-◌, ◌/◌, ◌<◌, max}
 use native.Mathlib.Omega.{arith}
 use mathlib.Core.Path.{◌≡◌, ◌∙◌, ap}
 use borrow.Author.Tests.{le-leb, lt-leb, lt-ltb, le-ltb}
@@ -19,7 +19,9 @@ pub nonzero_div-turns : goal.nonzero_div-turns
 nonzero_div-turns c = c.requires.2 (omega (arith, c.if-ratio-le100.false))
 
 pub overflow_sub-turns : goal.overflow_sub-turns
-overflow_sub-turns c = omega (arith, div-turns c)
+overflow_sub-turns c =
+    let some : 0 < c.args.gain = c.requires.2 (omega (arith, c.if-ratio-le100.false)) in
+    omega arith
 
 pub returns : goal.returns
 returns c =

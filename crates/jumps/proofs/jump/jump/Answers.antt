@@ -13,7 +13,8 @@ pub returns-then-refusal-ne0 : goal.returns-then-refusal-ne0
 returns-then-refusal-ne0 c =
     let a = c.args in
     let e = jump_refusal_by_parts a.settings a.state a.count _ _ c.first_failed.ensures c.phase_first_failed-refusal.ensures in
-    with_number a.settings a.state a.g a.count _ (sym (jump_refused a.settings a.state a.g a.count _ e c.if-refusal-ne0.true))
+    let both = with_number a.settings a.state a.g a.count _ (sym (jump_refused a.settings a.state a.g a.count _ e c.if-refusal-ne0.true)) in
+    record { answer = both.0; number = both.1 }
 
 pub jump_ready-requires : goal.jump_ready-requires
 jump_ready-requires c =
@@ -27,7 +28,9 @@ unfolding pace_of
 returns c =
     let a = c.args in
     let e = jump_refusal_by_parts a.settings a.state a.count _ _ c.first_failed.ensures c.phase_first_failed-refusal.ensures in
+    let both =
     with_number a.settings a.state a.g a.count _
     (c.jump_ready.ensures
     ∙ ap (λ (pace : Pace). jump_of a.settings a.state pace.sample a.count) c.pace_of-pace.ensures
-    ∙ sym (jump_accepted a.settings a.state a.g a.count (sym e ∙ c.if-refusal-ne0.false)))
+    ∙ sym (jump_accepted a.settings a.state a.g a.count (sym e ∙ c.if-refusal-ne0.false))) in
+    record { answer = both.0; number = both.1 }

@@ -8,12 +8,15 @@ pub returns-then-refusal-ne0 : goal.returns-then-refusal-ne0
 returns-then-refusal-ne0 c =
     let a = c.args in
     let e = why_refusal_by_parts a.settings a.state a.block _ _ c.first_failed.ensures c.phase_first_failed-refusal.ensures in
-    with_numbers a.settings a.state a.g a.block _ (sym (why_refused a.settings a.state a.g a.block _ e c.if-refusal-ne0.true))
+    let both = with_numbers a.settings a.state a.g a.block _ (sym (why_refused a.settings a.state a.g a.block _ e c.if-refusal-ne0.true)) in
+    record { answer = both.0; numbers = both.1 }
 
 pub returns : goal.returns
 returns c =
     let a = c.args in
     let e = why_refusal_by_parts a.settings a.state a.block _ _ c.first_failed.ensures c.phase_first_failed-refusal.ensures in
     let accepted = sym e ∙ c.if-refusal-ne0.false in
+    let both =
     with_numbers a.settings a.state a.g a.block _
-    (why_by_parts a.settings a.state a.g a.block _ _ _ accepted c.kind_of-kind.ensures c.tick-ticked.ensures c.reason_by.ensures)
+    (why_by_parts a.settings a.state a.g a.block _ _ _ accepted c.kind_of-kind.ensures c.tick-ticked.ensures c.reason_by.ensures) in
+    record { answer = both.0; numbers = both.1 }
