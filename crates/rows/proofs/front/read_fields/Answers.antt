@@ -1,8 +1,6 @@
 -- `rows::front::read_fields` meets its contract: six fields one after the other, which come no farther than the room.
 -- Assumes nothing.
-use Prim.Native.Nat.{◌+◌, ◌≤◌}
 use native.Mathlib.Omega.{arith}
-use lib.ListN.{length}
 use Rattle.rows.proofs.FrontReading.{fields_read}
 use Rattle.rows.proofs.front.read_fields.Goals as goal
 

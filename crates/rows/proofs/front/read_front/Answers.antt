@@ -1,11 +1,9 @@
 -- `rows::front::read_front` meets its contract.
 -- Assumes nothing.
-use mathlib.Core.Path.{◌≡◌, sym, ◌∙◌}
-use mathlib.Core.Bool.{true}
+use mathlib.Core.Path.{sym, ◌∙◌}
 use Prim.Native.Nat.{◌+◌}
-use lib.Dec.{leb}
 use lib.ListN.{length}
-use borrow.Author.Tests.{leb-true, not-true, not-false}
+use borrow.Author.Tests.{leb-true}
 use Rattle.rows.specs.device.Front.{front_room}
 use Rattle.rows.proofs.FrontReading.{front_late, front_other, front_next}
 use Rattle.rows.proofs.front.read_front.Goals as goal
