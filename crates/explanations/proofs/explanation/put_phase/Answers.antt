@@ -3,4 +3,4 @@
 use Rattle.explanations.proofs.explanation.put_phase.Goals as goal
 
 pub returns : goal.returns
-returns c = rw (c.why-answer.ensures.0, c.tick-ticked.ensures, c.trip_level.ensures) at c.put_answer.ensures
+returns c = rw (c.why-answer.ensures.answer, c.tick-ticked.ensures, c.trip_level.ensures) at c.put_answer.ensures

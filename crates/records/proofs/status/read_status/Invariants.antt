@@ -1,6 +1,5 @@
 -- `records::status::read_status` meets its contract: from the last field to the first.
 -- Assumes nothing.
-use Prim.Native.Nat.{◌-◌}
 use Rattle.records.proofs.StatusLaws.{StatusTurn}
 use Rattle.records.proofs.status.read_status.Given as goal
 

@@ -2,7 +2,6 @@
 -- Assumes nothing.
 use mathlib.Core.Path.{sym, ◌∙◌}
 use native.Mathlib.Omega.{arith}
-use borrow.Author.Tests.{not-true, not-false}
 use Rattle.records.proofs.WriterLaws.{refused_unfit, refused_cramped, refused_not}
 use Rattle.records.proofs.writer.write_refusal.Goals as goal
 

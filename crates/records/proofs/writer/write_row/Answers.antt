@@ -22,8 +22,11 @@ slice_bounds-put_row-count c =
     let free = c.free_from in
     omega (arith, accepted_place a.x free.result (length a.out.now) a.at free.ensures (sym c.write_refusal-refusal.ensures ∙ c.if-refusal-ne0.false))
 
--- LEFT slice-bounds-put-row-start
--- sub-put-row c
+pub slice_bounds-put_row-start : goal.slice_bounds-put_row-start
+slice_bounds-put_row-start c =
+    let a = c.args in
+    let free = c.free_from in
+    omega (arith, accepted_place a.x free.result (length a.out.now) a.at free.ensures (sym c.write_refusal-refusal.ensures ∙ c.if-refusal-ne0.false))
 
 pub put_row-long-requires : goal.put_row-long-requires
 put_row-long-requires c =
