@@ -11,7 +11,7 @@ use Rattle.relay.specs.State.{clear_relay, valid_relay}
 use Rattle.relay.specs.declared.tick.RelayTicked.{RelayTicked}
 use Rattle.relay.specs.Tick.{relay_tick_refusal}
 use Rattle.relay.proofs.RelayLaws.{clear_relay_is_valid, relay_tick_allowed, relay_tick_accepted, relay_tick_keeps_valid}
-use Rattle.config.specs.declared.reader.ConfigRead.TheVariants as config-read
+use Rattle.config.specs.declared.reader.ConfigRead.TheVariants as config_read
 use Rattle.steps.specs.declared.configuration.Configuration.{Configuration}
 use Rattle.steps.specs.declared.configuration.Configuration.TheVariants.{Absent, Given}
 use Rattle.steps.specs.declared.progress.Progress.{Progress}
@@ -21,7 +21,7 @@ use Rattle.rows.specs.declared.row.Row.{Row}
 use Rattle.rows.specs.declared.row.RowRead.{RowRead}
 use Rattle.rows.specs.declared.row.RowRead.TheVariants as row
 use Rattle.rows.specs.declared.settings_line.SettingsRead.{SettingsRead}
-use Rattle.rows.specs.declared.settings_line.SettingsRead.TheVariants as settings-line
+use Rattle.rows.specs.declared.settings_line.SettingsRead.TheVariants as settings_line
 use Rattle.steps.specs.Configuration.{after_settings}
 use Rattle.steps.specs.Progress.{fresh_progress, opened, ticked, row_done, after_tick, stepped, after_by, after_line}
 use Rattle.files.specs.Replay.{after_lines}

@@ -13,7 +13,7 @@ use Rattle.rows.specs.declared.row.Row.{Row}
 use Rattle.rows.specs.declared.row.RowRead.{RowRead}
 use Rattle.rows.specs.declared.row.RowRead.TheVariants as row_read
 use Rattle.rows.specs.declared.settings_line.SettingsRead.{SettingsRead}
-use Rattle.rows.specs.declared.settings_line.SettingsRead.TheVariants as settings-line
+use Rattle.rows.specs.declared.settings_line.SettingsRead.TheVariants as settings_line
 use Rattle.rows.specs.Refusal.{without_place}
 use Rattle.rows.specs.Row.{row_answer}
 use Rattle.rows.specs.SettingsLine.{settings_line_answer}

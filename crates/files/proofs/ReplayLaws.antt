@@ -7,7 +7,7 @@ use Prim.Native.Nat.{ℕ, ◌<◌}
 use native.Mathlib.Omega.{arith}
 use lib.ListN.{length}
 use borrow.Author.Tests.{ne_eqb}
-use Rattle.config.specs.declared.reader.ConfigRead.TheVariants as config-read
+use Rattle.config.specs.declared.reader.ConfigRead.TheVariants as config_read
 use Rattle.rows.specs.declared.settings_line.SettingsRead.{SettingsRead}
 use Rattle.rows.specs.declared.settings_line.SettingsRead.TheVariants.{Accepted}
 use Rattle.steps.specs.declared.configuration.Configuration.{Configuration}

@@ -9,7 +9,7 @@ use Rattle.rows.specs.declared.row.Row.{Row}
 use Rattle.rows.specs.declared.row.RowRead.{RowRead}
 use Rattle.rows.specs.declared.row.RowRead.TheVariants as row
 use Rattle.rows.specs.declared.settings_line.SettingsRead.{SettingsRead}
-use Rattle.rows.specs.declared.settings_line.SettingsRead.TheVariants as settings-line
+use Rattle.rows.specs.declared.settings_line.SettingsRead.TheVariants as settings_line
 use Rattle.steps.specs.declared.configuration.Configuration.{Configuration}
 use Rattle.steps.specs.declared.output.Form.{Form}
 use Rattle.steps.specs.declared.progress.Stage.{Stage}

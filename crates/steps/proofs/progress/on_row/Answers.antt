@@ -13,7 +13,7 @@ pub on_tick-requires : goal.on_tick-requires
 on_tick-requires c =
     let a = c.args in
     let x = c.in-Accepted.x in
-    let (answer, number) = c.read_row-answer.ensures in
+    let answer = c.read_row-answer.ensures.answer in
     let q = sym answer ∙ c.in-Accepted.is in
     let k = accepted_row a.line.now a.p.done x q in
     record {
@@ -28,7 +28,7 @@ pub returns-in-Accepted : goal.returns-in-Accepted
 returns-in-Accepted c =
     let a = c.args in
     let x = c.in-Accepted.x in
-    let (answer, number) = c.read_row-answer.ensures in
+    let answer = c.read_row-answer.ensures.answer in
     let q = sym answer ∙ c.in-Accepted.is in
     let r = row_answer a.line.now a.p.done in
     let t = c.tick-t in
@@ -46,7 +46,7 @@ returns-in-Refused c =
     let a = c.args in
     let r = row_answer a.line.now a.p.done in
     let n = c.in-Refused.refusal in
-    let (answer, number) = c.read_row-answer.ensures in
+    let answer = c.read_row-answer.ensures.answer in
     let q = sym answer ∙ c.in-Refused.is in
     record {
       noted = refused_noted a.form a.p r n q c.stop-progress.result a.at c.stop-progress.ensures;

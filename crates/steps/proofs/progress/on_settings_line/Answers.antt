@@ -7,11 +7,11 @@ use Rattle.steps.proofs.progress.on_settings_line.Goals as goal
 pub returns-in-Accepted : goal.returns-in-Accepted
 returns-in-Accepted c =
     let a = c.args in
-    let (answer, number) = c.read_settings_line-answer.ensures in
+    let answer = c.read_settings_line-answer.ensures.answer in
     rw c.after_settings-stage.ensures (ap (opened a.p) (sym c.in-Accepted.is ∙ answer))
 
 pub returns-in-Refused : goal.returns-in-Refused
 returns-in-Refused c =
     let a = c.args in
-    let (answer, number) = c.read_settings_line-answer.ensures in
+    let answer = c.read_settings_line-answer.ensures.answer in
     c.stop.ensures ∙ ap (opened a.p) (sym c.in-Refused.is ∙ answer)
