@@ -22,7 +22,7 @@ use Rattle.rows.specs.Widths.{row_widths, settings_widths}
 use Rattle.rows.proofs.RowLaws.{row_misshapen}
 use Rattle.rows.proofs.SettingsLineLaws.{settings_misshapen}
 use Rattle.rows.proofs.FrontLaws.{long_faulty, row_front, settings_front}
-use Rattle.steps.specs.Progress.{stopped, opened, stepped, after_by, wrote_by, after_line, wrote_line}
+use Rattle.steps.specs.Progress.{opened, stepped, after_by, wrote_by, after_line, wrote_line}
 use Rattle.files.specs.Replay.{end_alone, written_first, by_lines, line_limit}
 use Rattle.checks.proofs.Cases.{by_cond, not_both, not_true}
 

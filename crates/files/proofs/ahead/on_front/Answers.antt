@@ -7,4 +7,4 @@ use Rattle.files.proofs.ahead.on_front.Goals as goal
 pub returns : goal.returns
 returns c =
     let s = c.step-stepped in
-    (rw s.ensures, rw (← ap (λ (x : Stepped). x.outputs) s.ensures) c.note_change-written.ensures)
+    record { way = rw s.ensures; wrote = rw (← ap (λ (x : Stepped). x.outputs) s.ensures) c.note_change-written.ensures }

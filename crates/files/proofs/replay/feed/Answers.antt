@@ -19,21 +19,19 @@ returns-then-takes_portion c =
     let e = sym c.takes_portion.ensures ∙ c.if-takes_portion.true in
     let f = c.feed_bytes.ensures in
     let room = taken_room a.state a.portion.now (length a.out.now) e in
-    let k : length c.feed_bytes.new.out ≡ length a.out.now = ap length f.output ∙ simp length-sets in (
-      f.answer ∙ sym (taken_answer a.state a.portion.now (length a.out.now) e),
-      (
-        f.output ∙ ap (sets a.out.now 0) (sym (taken_writes a.state a.portion.now (length a.out.now) e)),
-        omega (arith, f.within),
-      ),
-    )
+    let k : length c.feed_bytes.new.out ≡ length a.out.now = ap length f.output ∙ simp length-sets in
+    record {
+      answer = f.answer ∙ sym (taken_answer a.state a.portion.now (length a.out.now) e);
+      output = f.output ∙ ap (sets a.out.now 0) (sym (taken_writes a.state a.portion.now (length a.out.now) e));
+      within = omega (arith, f.within);
+    }
 
 pub returns : goal.returns
 returns c =
     let a = c.args in
-    let e = sym c.takes_portion.ensures ∙ c.if-takes_portion.false in (
-      sym (untaken_answer a.state a.portion.now (length a.out.now) e),
-      (
-        ap (sets a.out.now 0) (sym (untaken_writes a.state a.portion.now (length a.out.now) e)),
-        omega arith,
-      ),
-    )
+    let e = sym c.takes_portion.ensures ∙ c.if-takes_portion.false in
+    record {
+      answer = sym (untaken_answer a.state a.portion.now (length a.out.now) e);
+      output = ap (sets a.out.now 0) (sym (untaken_writes a.state a.portion.now (length a.out.now) e));
+      within = omega arith;
+    }

@@ -1,5 +1,4 @@
 use mathlib.Core.Path.{◌≡◌, ap, ◌∙◌}
-use Prim.Native.Nat.{◌-◌}
 use native.Mathlib.Omega.{arith}
 use lib.ListN.{length}
 use lib.Seq.{length-sets}
@@ -35,22 +34,17 @@ on_held-t-requires c =
     let room = line_room_law a.state a.portion.now a.out.now l.i s l.at l.out l.invariant more k.result k.ensures in
     (omega (arith, piece.fits, piece.room), omega (arith, room, c.requires.1, l.invariant.long))
 
--- how far the line that was closed has come
-closed : (c : goal.After-on_held-t)
-    → FeedTurn c.args.state c.args.portion.now c.args.out.now c.cut-piece.result.next (still c.args.state.form c.on_held-t.result.progress) c.on_held-t.result.written c.on_held-t.new.out
-closed c =
+pub run_ahead-ahead-requires : goal.run_ahead-ahead-requires
+run_ahead-ahead-requires c =
     let a = c.args in
     let l = c.loop-i in
     let more = c.loop-i-test.true in
     let k = c.cut-piece in
     let s : Replay = record { form = a.state.form; progress = l.progress; cutter = l.cutter } in
     let t = c.on_held-t in
-    turn_closed a.state a.portion.now a.out.now l.i s l.at l.out l.invariant more k.result k.ensures c.in-Closed.is t.result t.new.out t.ensures
-
-pub run_ahead-ahead-requires : goal.run_ahead-ahead-requires
-run_ahead-ahead-requires c =
-    let turn = closed c in
-    (turn.within, turn_room _ _ _ _ _ _ _ turn c.requires.1)
+    let closed : FeedTurn a.state a.portion.now a.out.now k.result.next (still a.state.form t.result.progress) t.result.written t.new.out =
+    turn_closed a.state a.portion.now a.out.now l.i s l.at l.out l.invariant more k.result k.ensures c.in-Closed.is t.result t.new.out t.ensures in
+    (closed.within, turn_room _ _ _ _ _ _ _ closed c.requires.1)
 
 pub loop-i-smaller : goal.loop-i-smaller
 loop-i-smaller c =
@@ -63,7 +57,16 @@ loop-i-smaller c =
     omega (arith, more, ran.on.farther, ran.on.within, (taken a.state a.portion.now a.out.now l.i s l.at l.out l.invariant more k.result k.ensures).farther more)
 
 pub loop-i-preserved : goal.loop-i-preserved
-loop-i-preserved c = rw c.empty-cutter.ensures (turn_ahead _ _ _ _ _ _ _ _ _ (closed c) c.run_ahead-ahead.ensures)
+loop-i-preserved c =
+    let a = c.args in
+    let l = c.loop-i in
+    let more = c.loop-i-test.true in
+    let k = c.cut-piece in
+    let s : Replay = record { form = a.state.form; progress = l.progress; cutter = l.cutter } in
+    let t = c.on_held-t in
+    let closed : FeedTurn a.state a.portion.now a.out.now k.result.next (still a.state.form t.result.progress) t.result.written t.new.out =
+    turn_closed a.state a.portion.now a.out.now l.i s l.at l.out l.invariant more k.result k.ensures c.in-Closed.is t.result t.new.out t.ensures in
+    rw c.empty-cutter.ensures (turn_ahead _ _ _ _ _ _ _ _ _ closed c.run_ahead-ahead.ensures)
 
 pub on_held-t-requires-in-TooLong : goal.on_held-t-requires-in-TooLong
 on_held-t-requires-in-TooLong c =
