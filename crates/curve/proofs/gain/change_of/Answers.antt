@@ -10,6 +10,6 @@ pub returns : goal.returns
 returns c =
     c.quotient.ensures
     ∙ elim c.if-ratio-gt100.branch [
-      then-ratio-gt100 w ↦ rw (w.time-is, w.operate_time-time.ensures, lt-ltb 100 _ w.if-ratio-gt100.true) (gain_by_time _ _)
+      | then-ratio-gt100 w ↦ rw (w.time-is, w.operate_time-time.ensures, lt-ltb 100 _ w.if-ratio-gt100.true) (gain_by_time _ _)
       | else-ratio-gt100 w ↦ rw (w.time-is, w.reset_time-time.ensures, le-ltb 100 _ w.if-ratio-gt100.false) (loss_by_time _ _)
     ]

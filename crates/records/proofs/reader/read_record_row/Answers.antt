@@ -40,22 +40,22 @@ returns-then-not-status c =
     record { answer = answer; numbers = numbers }
 
 pub overflow_cast-result : goal.overflow_cast-result
-overflow_cast-result c = 
+overflow_cast-result c =
     let l = c.read_line-line in
     omega (arith, field_fits c.args.row.now c.args.last l.result l.ensures c.in_default.is 0 (omega arith))
 
 pub overflow_cast-result-2 : goal.overflow_cast-result-2
-overflow_cast-result-2 c = 
+overflow_cast-result-2 c =
     let l = c.read_line-line in
     omega (arith, field_fits c.args.row.now c.args.last l.result l.ensures c.in_default.is 2 (omega arith))
 
 pub overflow_cast-result-3 : goal.overflow_cast-result-3
-overflow_cast-result-3 c = 
+overflow_cast-result-3 c =
     let l = c.read_line-line in
     omega (arith, field_fits c.args.row.now c.args.last l.result l.ensures c.in_default.is 3 (omega arith))
 
 pub overflow_cast-result-4 : goal.overflow_cast-result-4
-overflow_cast-result-4 c = 
+overflow_cast-result-4 c =
     let l = c.read_line-line in
     omega (arith, field_fits c.args.row.now c.args.last l.result l.ensures c.in_default.is 4 (omega arith))
 

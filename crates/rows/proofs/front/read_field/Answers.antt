@@ -42,7 +42,7 @@ returns c =
     let l = c.loop-end in
     let (answer, (near, small)) = field_told _ a.width a.closer a.s.now a.at (field_read a.s.now a.at a.width l.end l.value l.invariant a.closer
     (elim c.loop-end-test.branch [
-        else-loop-end-test w ↦ found_full a.s.now a.at a.width l.end l.value l.invariant w.loop-end-test.false
-        | then-loop-end-test+then-not-is_digit w ↦ found_other a.s.now a.at a.width l.end l.value l.invariant (omega (arith, within, w.loop-end-test.true)) (sym w.is_digit.ensures ∙ w.if-not-is_digit.true)
-      ])) in
+      | else-loop-end-test w ↦ found_full a.s.now a.at a.width l.end l.value l.invariant w.loop-end-test.false
+      | then-loop-end-test+then-not-is_digit w ↦ found_other a.s.now a.at a.width l.end l.value l.invariant (omega (arith, within, w.loop-end-test.true)) (sym w.is_digit.ensures ∙ w.if-not-is_digit.true)
+    ])) in
     record { answer = answer; near = near; small = small }

@@ -5,7 +5,7 @@ use Rattle.rows.proofs.FrontReading.{fields_read}
 use Rattle.rows.proofs.front.read_fields.Goals as goal
 
 pub bounds-s-end : goal.bounds-s-end
-bounds-s-end c = 
+bounds-s-end c =
     omega (
       arith,
       c.requires,
@@ -33,7 +33,7 @@ pub overflow_cast-result-5 : goal.overflow_cast-result-5
 overflow_cast-result-5 c = omega (arith, c.read_field-block.ensures.small)
 
 pub overflow_add-result : goal.overflow_add-result
-overflow_add-result c = 
+overflow_add-result c =
     omega (
       arith,
       c.type_inv,
