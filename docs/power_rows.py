@@ -14,21 +14,26 @@ CRATE = "crates/powers"
 FIRST, SIZE = 101, 64 # entries stand in twos, so many to a row
 
 text = open(f"{CRATE}/src/power_table.rt").read()
-table = [int(n) for n in re.findall(r"^    (\d+),$", text, re.M)]
+table = [int(n) for n in re.findall(r"\d+", re.search(r"const X_TABLE.* = \[(.*?)\]", text, re.S)[1])]
 twos = list(zip(table[::2], table[1::2]))
 rows = [(start, twos[start : start + SIZE]) for start in range(0, len(twos), SIZE)]
 LAST = FIRST + len(table) - 1
 
 
 def row(number, start, part):
-    arms = "".join(f"        {start + i} => Two {{ first: {x}, second: {y} }},\n" for i, (x, y) in enumerate(part))
+    arms = "".join(
+        f"        {start + i} => Two {{\n            first: {x},\n            second: {y},\n        }},\n" for i, (x, y) in enumerate(part)
+    )
     return f"""
 fn row_{number}(place: u32) -> Two
-    requires {{ ⌜ ({start} ≤ place) × (place < {start + len(part)}) ⌝ }}
-    ensures {{ λ r. ⌜ Holds place r ⌝ }}
+    requires {{ ({start} ≤ place) × (place < {start + len(part)}) }}
+    ensures {{ Holds place result }}
 {{
     match place {{
-{arms}        _ => Two {{ first: 0, second: 0 }},
+{arms}        _ => Two {{
+            first: 0,
+            second: 0,
+        }},
     }}
 }}
 """
@@ -50,12 +55,12 @@ with open(f"{CRATE}/src/power_rows.rt", "w") as out:
     out.write(
         """// X(m) by rows, as docs/power_rows.py writes them from the constant table. The arms of a `match` on a number become a read-only
 // table; a constant array is built anew at each reading. Two entries to an arm are checked in three fifths of the time.
-ghost use mathlib.Core.Path.{_≡_};
-ghost use Prim.Native.Nat.{_≤_, _<_};
-ghost use Rattle·powers·specs.specs.Power.{X};
-ghost use Rattle·powers·specs.specs.device.Twos.{Holds};
+ghost use Rattle.std.specs.Prelude.{◌≡◌, ◌≤◌, ◌<◌};
+ghost use Rattle.powers.specs.Power.{X};
+ghost use Rattle.powers.specs.device.Twos.{Holds};
 
 // Two entries of the table that follow each other.
+#[derive(Clone, Copy)]
 pub(crate) struct Two {
     first: u64,
     second: u64,
@@ -68,15 +73,15 @@ pub(crate) struct Two {
         f"""
 // The entries of a place, which is the ratio less 101, halved.
 fn two_at(place: u32) -> Two
-    requires {{ ⌜ place < {len(twos)} ⌝ }}
-    ensures {{ λ r. ⌜ Holds place r ⌝ }}
+    requires {{ place < {len(twos)} }}
+    ensures {{ Holds place result }}
 {{
 {choose(0, len(rows), 4)}}}
 
 // X(m) by the row that has the ratio m.
 pub(crate) fn x_by_rows(ratio: u32) -> u64
-    requires {{ ⌜ ({FIRST} ≤ ratio) × (ratio ≤ {LAST}) ⌝ }}
-    ensures {{ λ r. ⌜ r ≡ X ratio ⌝ }}
+    requires {{ ({FIRST} ≤ ratio) × (ratio ≤ {LAST}) }}
+    ensures {{ result ≡ X ratio }}
 {{
     let from = ratio - {FIRST};
     let two = two_at(from / 2);
@@ -92,19 +97,19 @@ with open(f"{CRATE}/proofs/PowerTable.antt", "w") as out:
 -- Assumes nothing.
 use Prim.Native.Nat.{ℕ}
 use mathlib.Core.Bool.{true}
-use mathlib.Core.List.{List, [], _∷_}
-use mathlib.Core.Path.{_≡_, refl}
-use Rattle·powers·proofs.proofs.PowerRule.{isLeast}
-use Rattle·powers·proofs.proofs.Tables.{everyEntry}
+use mathlib.Core.List.{List, [], ◌∷◌}
+use mathlib.Core.Path.{◌≡◌, refl}
+use Rattle.powers.proofs.PowerRule.{is_least}
+use Rattle.powers.proofs.Tables.{every_entry}
 
-abbrev pub xTable : List ℕ
-xTable =
+abbrev pub x_table : List ℕ
+x_table =
     """
         + " ∷\n    ".join(lines)
         + """ ∷ []
 
-pub table-rule : everyEntry isLeast 101 xTable ≡ true
-table-rule = refl
+pub table_rule : every_entry is_least 101 x_table ≡ true
+table_rule = refl
 """
     )
 
@@ -112,24 +117,24 @@ for number, (start, part) in enumerate(rows):
     here = f"{CRATE}/proofs/power_rows/row_{number}"
     shutil.rmtree(here, ignore_errors=True)
     os.makedirs(here)
-    name = f"Rattle·powers·proofs.proofs.power_rows.row_{number}"
+    name = f"Rattle.powers.proofs.power_rows.row_{number}"
     with open(f"{here}/Proof.antt", "w") as out:
         out.write(
             f"""-- `powers::power_rows::row_{number}` meets its contract: its arms are the table's entries from number {2 * start} on, {2 * len(part)} of them.
 -- Assumes nothing.
-use borrow.Fn.Plain.{{t-fn-plain}}
+use borrow.Fn.Plain.{{t_fn_plain}}
 use lib.Dec.{{lit≤}}
-use Rattle·powers·proofs.proofs.PowerRows.{{row-of}}
-use Rattle·powers·proofs.proofs.PowerTable.{{xTable, table-rule}}
+use Rattle.powers.proofs.PowerRows.{{row_of}}
+use Rattle.powers.proofs.PowerTable.{{x_table, table_rule}}
 use {name}.Statement.{{statement}}
 use {name}.Tie as tie
 use {name}.Lts as lts
 use {name}.Reads as reads
 
-pub row-{number}-spec : {{M : Type 1}} → statement M
-row-{number}-spec =
+pub row_{number}_spec : {{M : Type 1}} → statement M
+row_{number}_spec =
     tie.close
-    (λ 𝓤 H A W 𝓣. t-fn-plain 𝓤 H A W 𝓣 0 lts.ps lts.r lts.xs lts.m lts.hs lts.body _ (λ κs qs bs. lts.typed reads.Pre reads.Post κs qs 𝓤 H A W 𝓣 bs) reads.Pre reads.Post
-    (λ κs qs a good pre bs. row-of xTable {start} {len(part)} (a .0) table-rule (lit≤ tt) (pre .0) (pre .1)))
+    (λ 𝓤 𝓛 𝓣. t_fn_plain 𝓛 𝓣 0 lts.ps lts.r lts.xs lts.m lts.hs lts.body _ (λ κs qs bs bd. lts.typed reads.Pre reads.Post κs qs 𝓛 𝓣 bs bd) reads.Pre reads.Post
+    (λ κs qs a good pre bs. row_of x_table {start} {len(part)} a.0 table_rule (lit≤ tt) pre.0 pre.1))
 """
         )

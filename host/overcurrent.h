@@ -9,7 +9,8 @@
  * keep nothing between calls: all that goes on from one batch to the next is
  * in the caller's `states`.
  *
- * The archive is for x86-64, by the System V calling convention.
+ * The archive is for x86-64 from the level v2 on (SSE 4.2), by the System V calling
+ * convention.
  * Stack needed: under 600 bytes, whatever the operation (`host/run --count` measures
  * it), after the 112 of a call of oc_batch, for 13 arguments and the return address.
  * It wants no symbol from elsewhere, memcpy neither.
