@@ -44,7 +44,9 @@ fn write_times(rt: HostRuntime, asked: Asked) {
 fn main(rt: HostRuntime) {
     let asked = read_arguments(rt);
     if !is_right(rt, asked) {
-        say(rt, b"failed: curves takes an operation, 2 to 12, and two ratios in hundredths, 0 to 2000\n",
+        say(
+            rt,
+            b"failed: curves takes an operation, 2 to 12, and two ratios in hundredths, 0 to 2000\n",
         );
         return;
     }

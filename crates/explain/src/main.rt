@@ -65,7 +65,10 @@ fn main(rt: HostRuntime) {
     }
     let row = asked_row(rt);
     if row == 0 {
-        say(rt, b"failed: explain takes one row number, 1 to 999999, or --all\n");
+        say(
+            rt,
+            b"failed: explain takes one row number, 1 to 999999, or --all\n",
+        );
         return;
     }
     explain(rt, row);

@@ -70,7 +70,9 @@ fn grade(rt: HostRuntime, upstream: Settings, downstream: Settings, wanted: i64)
 fn main(rt: HostRuntime) {
     let asked = asked_margin(rt);
     if !asked.is_right {
-        say(rt, b"failed: grade takes one wanted margin in ticks, 1 to 10 digits after an optional minus\n",
+        say(
+            rt,
+            b"failed: grade takes one wanted margin in ticks, 1 to 10 digits after an optional minus\n",
         );
         return;
     }

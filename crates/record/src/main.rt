@@ -12,7 +12,13 @@ const ROOM: usize = RECORD_SPREAD * (LONGEST_LINE + PORTION);
 fn main(rt: HostRuntime) {
     let mut portion = [0u8; PORTION];
     let mut rows = [0u8; ROOM];
-    let end = runs::run(rt, Form::Record, Configuration::Absent, &mut portion, &mut rows);
+    let end = runs::run(
+        rt,
+        Form::Record,
+        Configuration::Absent,
+        &mut portion,
+        &mut rows,
+    );
     if end.failed {
         return;
     }

@@ -13,7 +13,10 @@ const ROOM: usize = LONGEST_LINE + PORTION;
 
 fn main(rt: HostRuntime) {
     if !arguments::are_right(rt) {
-        program::say(rt, b"failed: replay takes no argument, or --config and a file's name\n");
+        program::say(
+            rt,
+            b"failed: replay takes no argument, or --config and a file's name\n",
+        );
         return;
     }
     let mut portion = [0u8; PORTION];

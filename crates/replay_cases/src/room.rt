@@ -22,7 +22,10 @@ fn feed(rt: HostRuntime, name: &[u8], form: Form, held: usize, out: &mut [u8]) {
 
 fn end(rt: HostRuntime, name: &[u8], out: &mut [u8]) {
     say(rt, name);
-    say_count(rt, files::finish(Replay::fresh(Form::Changes, Configuration::Absent), out));
+    say_count(
+        rt,
+        files::finish(Replay::fresh(Form::Changes, Configuration::Absent), out),
+    );
     say(rt, b" bytes written\n");
 }
 
@@ -30,17 +33,23 @@ pub(crate) fn feeds(rt: HostRuntime) {
     let mut five = [7u8; 5];
     let mut four = [7u8; 4];
     let mut large = [7u8; 100];
-    feed(rt, b"a portion of 5 bytes, room for 5",
+    feed(
+        rt,
+        b"a portion of 5 bytes, room for 5",
         Form::Changes,
         0,
         &mut five,
     );
-    feed(rt, b"a portion of 5 bytes, room for 4",
+    feed(
+        rt,
+        b"a portion of 5 bytes, room for 4",
         Form::Changes,
         0,
         &mut four,
     );
-    feed(rt, b"a state that holds 46 bytes",
+    feed(
+        rt,
+        b"a state that holds 46 bytes",
         Form::Changes,
         LONGEST_LINE + 1,
         &mut large,
@@ -51,8 +60,20 @@ pub(crate) fn feeds(rt: HostRuntime) {
 pub(crate) fn record_feeds(rt: HostRuntime) {
     let mut enough = [7u8; 25];
     let mut short = [7u8; 24];
-    feed(rt, b"for the record, room for 25", Form::Record, 0, &mut enough);
-    feed(rt, b"for the record, room for 24", Form::Record, 0, &mut short);
+    feed(
+        rt,
+        b"for the record, room for 25",
+        Form::Record,
+        0,
+        &mut enough,
+    );
+    feed(
+        rt,
+        b"for the record, room for 24",
+        Form::Record,
+        0,
+        &mut short,
+    );
 }
 
 pub(crate) fn ends(rt: HostRuntime) {

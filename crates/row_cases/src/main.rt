@@ -14,7 +14,12 @@ fn later_rows(rt: HostRuntime) {
     row(rt, b"the last row", b"999999,0,0,0,0,0\r\n", 999998);
     row(rt, b"no row follows it", b"1000000,0,0,0,0,0\r\n", 999999);
     row(rt, b"nor this", b"999999,0,0,0,0,0\r\n", 999999);
-    row(rt, b"the largest last number", b"0,0,0,0,0,0\r\n", 4294967295);
+    row(
+        rt,
+        b"the largest last number",
+        b"0,0,0,0,0,0\r\n",
+        4294967295,
+    );
 }
 
 fn first_rows(rt: HostRuntime) {
@@ -22,7 +27,9 @@ fn first_rows(rt: HostRuntime) {
     row(rt, b"a wrong number", b"2,0,0,0,0,0\r\n", 0);
     row(rt, b"a wrong block field", b"1,0,0,0,0,2\r\n", 0);
     row(rt, b"bytes after CR LF", b"1,0,0,0,0,0\r\n1", 0);
-    row(rt, b"two rows in one slice",
+    row(
+        rt,
+        b"two rows in one slice",
         b"1,0,0,0,0,0\r\n2,0,0,0,0,0\r\n",
         0,
     );
@@ -42,11 +49,15 @@ fn misshapen_rows(rt: HostRuntime) {
 }
 
 fn settings_lines(rt: HostRuntime) {
-    settings_line(rt, b"the largest settings",
+    settings_line(
+        rt,
+        b"the largest settings",
         b"12,3000,1500,60000,60000,60000,1\r\n",
     );
     settings_line(rt, b"the smallest settings", b"0,10,5,40,40,60,0\r\n");
-    settings_line(rt, b"a settings line and a row",
+    settings_line(
+        rt,
+        b"a settings line and a row",
         b"1,200,100,100,40,60,0\r\n1,0,0,0,0,0\r\n",
     );
     settings_line(rt, b"all settings out of range", b"13,0,0,0,0,0,2\r\n");

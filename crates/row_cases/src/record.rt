@@ -42,7 +42,13 @@ fn numbers(rt: HostRuntime) {
     let mut none = [b'.'; 2];
     write(rt, b"row 0, no room", &mut none, 2, row(0, 0, 0));
     write(rt, b"row 1,000,000", &mut none, 0, row(1000000, 0, 0));
-    write(rt, b"a current too large", &mut none, 0, row(1, 10000000, 0));
+    write(
+        rt,
+        b"a current too large",
+        &mut none,
+        0,
+        row(1, 10000000, 0),
+    );
 }
 
 fn say_record(rt: HostRuntime, x: RecordRow) {
@@ -69,15 +75,21 @@ fn read(rt: HostRuntime, name: &[u8], bytes: &[u8], last: u32) {
 }
 
 fn rows_read(rt: HostRuntime) {
-    read(rt, b"read back",
+    read(
+        rt,
+        b"read back",
         b"5,4000,0,20001,9999999,0,1,0,0,1,0,1,1\r\n",
         4,
     );
-    read(rt, b"59 bytes",
+    read(
+        rt,
+        b"59 bytes",
         b"000001,9999999999,0000000,0020001,9999999,1,1,1,1,1,1,1,1\r\n",
         0,
     );
-    read(rt, b"a wrong number and status",
+    read(
+        rt,
+        b"a wrong number and status",
         b"2,0,0,0,0,0,0,0,2,0,0,0,0\r\n",
         0,
     );

@@ -64,7 +64,13 @@ fn one_turn(rt: HostRuntime, state: Replay, portion: &mut [u8], out: &mut [u8]) 
 // To the end of the input, to a refusal, or to the row that was asked for: what follows would write nothing. Of the input no
 // contract can say more than that it came in some portions. The program lends the memory, since a form decides how much a
 // portion may write, and to make it anew at each turn is dear.
-pub fn run(rt: HostRuntime, form: Form, configuration: Configuration, portion: &mut [u8], out: &mut [u8]) -> Ended
+pub fn run(
+    rt: HostRuntime,
+    form: Form,
+    configuration: Configuration,
+    portion: &mut [u8],
+    out: &mut [u8],
+) -> Ended
     requires { portion_room form longest_line (length portion.old) ≤ length out.old }
     ensures { Reached (fresh_replay form configuration) result.state }
 {
