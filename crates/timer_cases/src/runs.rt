@@ -31,10 +31,8 @@ fn step(rt: HostRuntime, kind: Kind, load: Load, d: u32, place: Place) -> Place 
 
 fn steps(rt: HostRuntime, kind: Kind, load: Load, d: u32, from: Place) -> Place {
     let mut place = from;
-    let mut ticks = 0u32;
-    while ticks < 32 {
+    for _ in 0..32 {
         place = step(rt, kind, load, d, place);
-        ticks += 1;
     }
     place
 }

@@ -15,11 +15,9 @@ fn inputs_of(combination: Combination, n: u32) -> Inputs {
 }
 
 fn all_inputs(rt: HostRuntime, kind: Kind, combination: Combination, d: u32, from: TimerState) {
-    let mut n = 0;
-    while n < 16 {
+    for n in 0..16 {
         let timed = tick(kind, from, d, inputs_of(combination, n));
         say_bit(rt, timed.on);
-        n += 1;
     }
 }
 
