@@ -46,14 +46,26 @@ fn trips_after(sample: u32, hours: u32, ticks: u32) -> bool {
     is_at(trip, ticks)
 }
 
-pub(crate) fn latest_trips() {
-    say(b"\nThe latest trip: IEC LongInv, start current 200, time multiplier 15, from clear\n");
-    say(b"the gains of all eleven curves from 1.01 to 20 times the setting are 8333 or more");
-    verdict(gains_at_least(8333));
-    say(b"and that of IEC LongInv at 1.01 is 8333");
-    verdict(curve::gain_of(5, 101) == 8333);
-    say(b"sample 20200: first trips after 50 hours and 7201 ticks, at tick 180007201");
-    verdict(trips_after(20200, 50, 7201));
-    say(b"sample 22000: first trips after 5 hours and 73 ticks, at tick 18000073");
-    verdict(trips_after(22000, 5, 73));
+pub(crate) fn latest_trips(rt: HostRuntime) {
+    say(
+        rt,
+        b"\nThe latest trip: IEC LongInv, start current 200, time multiplier 15, from clear\n",
+    );
+    say(
+        rt,
+        b"the gains of all eleven curves from 1.01 to 20 times the setting are 8333 or more",
+    );
+    verdict(rt, gains_at_least(8333));
+    say(rt, b"and that of IEC LongInv at 1.01 is 8333");
+    verdict(rt, curve::gain_of(5, 101) == 8333);
+    say(
+        rt,
+        b"sample 20200: first trips after 50 hours and 7201 ticks, at tick 180007201",
+    );
+    verdict(rt, trips_after(20200, 50, 7201));
+    say(
+        rt,
+        b"sample 22000: first trips after 5 hours and 73 ticks, at tick 18000073",
+    );
+    verdict(rt, trips_after(22000, 5, 73));
 }

@@ -1,83 +1,83 @@
 // How a line of the class's tables is written.
-pub(crate) fn say(text: &[u8]) {
-    program::write_out(text);
+pub(crate) fn say(rt: HostRuntime, text: &[u8]) {
+    program::write_out(rt, text);
 }
 
 // The last digit of a number.
-fn digit(n: u64) {
+fn digit(rt: HostRuntime, n: u64) {
     let text = [b'0' + (n % 10) as u8];
-    say(&text);
+    say(rt, &text);
 }
 
 // A number of at most four digits, to the right of its column.
-fn whole(n: u64) {
-    place(1000 <= n, n / 1000);
-    place(100 <= n, n / 100);
-    place(10 <= n, n / 10);
-    digit(n);
+fn whole(rt: HostRuntime, n: u64) {
+    place(rt, 1000 <= n, n / 1000);
+    place(rt, 100 <= n, n / 100);
+    place(rt, 10 <= n, n / 10);
+    digit(rt, n);
 }
 
 // A tick of at most three digits; 0 is none.
-pub(crate) fn tick_or_none(tick: u32) {
+pub(crate) fn tick_or_none(rt: HostRuntime, tick: u32) {
     if tick == 0 {
-        say(b"none");
+        say(rt, b"none");
         return;
     }
     let n = tick as u64;
     if 100 <= n {
-        digit(n / 100);
+        digit(rt, n / 100);
     }
     if 10 <= n {
-        digit(n / 10);
+        digit(rt, n / 10);
     }
-    digit(n);
+    digit(rt, n);
 }
 
 // A time in microseconds, as seconds.
-pub(crate) fn seconds(microseconds: u64) {
-    whole(microseconds / 1000000);
-    say(b".");
-    digit(microseconds / 100000);
-    digit(microseconds / 10000);
-    digit(microseconds / 1000);
-    digit(microseconds / 100);
-    digit(microseconds / 10);
-    digit(microseconds);
+pub(crate) fn seconds(rt: HostRuntime, microseconds: u64) {
+    whole(rt, microseconds / 1000000);
+    say(rt, b".");
+    digit(rt, microseconds / 100000);
+    digit(rt, microseconds / 10000);
+    digit(rt, microseconds / 1000);
+    digit(rt, microseconds / 100);
+    digit(rt, microseconds / 10);
+    digit(rt, microseconds);
 }
 
 // A time in milliseconds, as seconds with the one to three places that were printed.
-pub(crate) fn printed(milliseconds: u32, places: u32) {
+pub(crate) fn printed(rt: HostRuntime, milliseconds: u32, places: u32) {
     let time = milliseconds as u64;
-    whole(time / 1000);
-    say(b".");
-    digit(time / 100);
-    place(2 <= places, time / 10);
-    place(3 <= places, time);
+    whole(rt, time / 1000);
+    say(rt, b".");
+    digit(rt, time / 100);
+    place(rt, 2 <= places, time / 10);
+    place(rt, 3 <= places, time);
 }
 
-fn place(is_printed: bool, n: u64) {
+fn place(rt: HostRuntime, is_printed: bool, n: u64) {
     if is_printed {
-        digit(n);
+        digit(rt, n);
     } else {
-        say(b" ");
+        say(rt, b" ");
     }
 }
 
 // A ratio in hundredths, as a multiple of the setting.
-pub(crate) fn multiple(ratio: u32) {
+pub(crate) fn multiple(rt: HostRuntime, ratio: u32) {
     let m = ratio as u64;
-    whole(m / 100);
-    say(b".");
-    digit(m / 10);
-    digit(m);
+    whole(rt, m / 100);
+    say(rt, b".");
+    digit(rt, m / 10);
+    digit(rt, m);
 }
 
 // The verdict on a line, and its end.
-pub(crate) fn verdict(agrees: bool) {
+pub(crate) fn verdict(rt: HostRuntime, agrees: bool) {
     if agrees {
-        say(b"   agrees\n");
+        say(rt, b"   agrees\n");
     } else {
-        say(b"   DIFFERS\n");
+        say(rt, b"   DIFFERS\n");
     }
 }
 

@@ -9,13 +9,13 @@ mod pairs;
 mod phases;
 mod timers;
 
-fn main() {
-    curves::ansi_table();
-    curves::iec_points();
-    curves::ratios();
-    curves::power_table();
-    phases::phase_examples();
-    pairs::pairs_of_recordings();
-    latest::latest_trips();
-    timers::timer_examples();
+fn main(rt: HostRuntime) {
+    curves::ansi_table(rt);
+    curves::iec_points(rt);
+    curves::ratios(rt);
+    curves::power_table(rt);
+    phases::phase_examples(rt);
+    pairs::pairs_of_recordings(rt);
+    latest::latest_trips(rt);
+    timers::timer_examples(rt);
 }

@@ -53,6 +53,7 @@ fn run_both(settings: Settings, pair: Pair, ticks: u32, first: u32, second: u32)
 
 // So many ticks of a fault, a dip of so many, and the fault again for 400: the first trips, and whether the second was ever behind.
 fn compare(
+    rt: HostRuntime,
     operation: u32,
     fault: u32,
     first: u32,
@@ -73,26 +74,40 @@ fn compare(
     let started = run_both(settings, clear, fault, first, second);
     let dipped = run_both(settings, started, dip, first_dip, second_dip);
     let done = run_both(settings, dipped, 400, first, second);
-    say(b": first trips ");
-    tick_or_none(done.first_trip);
-    say(b" and ");
-    tick_or_none(done.second_trip);
-    verdict(done.never_behind);
+    say(rt, b": first trips ");
+    tick_or_none(rt, done.first_trip);
+    say(rt, b" and ");
+    tick_or_none(rt, done.second_trip);
+    verdict(rt, done.never_behind);
 }
 
-pub(crate) fn pairs_of_recordings() {
+pub(crate) fn pairs_of_recordings(rt: HostRuntime) {
     say(
+        rt,
         b"\nMore current is never slower: two recordings, the second with at least the current of the first at every tick\n",
     );
     say(
+        rt,
         b"Start current 200, time multiplier 1, delays 40, reset time 60. It agrees if the second's sum, run and trip are at no tick behind the first's.\n",
     );
-    say(b"IEC ExtInv, 15 and 16 times the setting, a dip of 59 ticks to 0 and to 50 %");
-    compare(4, 100, 300000, 320000, 59, 0, 10000);
-    say(b"IEC ExtInv, 15 times the setting, a dip of 60 ticks to just below 95 % and to 95 %");
-    compare(4, 100, 300000, 300000, 60, 18999, 19000);
-    say(b"ANSI Inv, 20 times the setting, a dip of 50 ticks to 0 and to 90 %");
-    compare(6, 100, 400000, 400000, 50, 0, 18000);
-    say(b"Definite, just above the setting, a dip of 60 ticks to just below 95 % and to 95 %");
-    compare(1, 30, 20001, 20001, 60, 18999, 19000);
+    say(
+        rt,
+        b"IEC ExtInv, 15 and 16 times the setting, a dip of 59 ticks to 0 and to 50 %",
+    );
+    compare(rt, 4, 100, 300000, 320000, 59, 0, 10000);
+    say(
+        rt,
+        b"IEC ExtInv, 15 times the setting, a dip of 60 ticks to just below 95 % and to 95 %",
+    );
+    compare(rt, 4, 100, 300000, 300000, 60, 18999, 19000);
+    say(
+        rt,
+        b"ANSI Inv, 20 times the setting, a dip of 50 ticks to 0 and to 90 %",
+    );
+    compare(rt, 6, 100, 400000, 400000, 50, 0, 18000);
+    say(
+        rt,
+        b"Definite, just above the setting, a dip of 60 ticks to just below 95 % and to 95 %",
+    );
+    compare(rt, 1, 30, 20001, 20001, 60, 18999, 19000);
 }

@@ -83,43 +83,62 @@ fn run_after(idle: u32) -> u32 {
     jump(settings_of(1, 200), in_a_dip(), 0, idle).state.run
 }
 
-fn definite_examples() {
-    say(b"\nOne phase, Definite, run 39 kept in the first tick of a dip\n");
-    say(b"start current 200, sample 19400: not started");
-    verdict(!tick(settings_of(1, 200), in_a_dip(), 19400).start);
-    say(b"start current 200, sample 20001, definite delay 40: trips at tick 1");
+fn definite_examples(rt: HostRuntime) {
+    say(
+        rt,
+        b"\nOne phase, Definite, run 39 kept in the first tick of a dip\n",
+    );
+    say(rt, b"start current 200, sample 19400: not started");
+    verdict(rt, !tick(settings_of(1, 200), in_a_dip(), 19400).start);
+    say(
+        rt,
+        b"start current 200, sample 20001, definite delay 40: trips at tick 1",
+    );
     let trip = jump(settings_of(1, 200), in_a_dip(), 20001, 1000).trip;
-    verdict(is_at(trip, 1));
-    say(b"reset time 60, the 59th idle tick keeps the run");
-    verdict(run_after(58) == 39);
-    say(b"reset time 60, the 60th clears it");
-    verdict(run_after(59) == 0);
+    verdict(rt, is_at(trip, 1));
+    say(rt, b"reset time 60, the 59th idle tick keeps the run");
+    verdict(rt, run_after(58) == 39);
+    say(rt, b"reset time 60, the 60th clears it");
+    verdict(rt, run_after(59) == 0);
 }
 
-pub(crate) fn phase_examples() {
-    say(b"\nOne phase, IEC VeryInv\n");
-    say(b"from clear, start current 200, sample 20000: not started");
-    verdict(!starts(200, 20000));
-    say(b"from clear, start current 200, sample 20001: started");
-    verdict(starts(200, 20001));
-    say(b"from clear, start current 3000, sample 4294967295: started");
-    verdict(starts(3000, 4294967295));
-    say(b"run 1, start current 200, sample 19000: stays started");
-    verdict(tick_running(19000).start);
-    say(b"run 1, start current 200, sample 18999: drops out");
-    verdict(!tick_running(18999).start);
-    say(b"run 1, start current 200, sample 19999: started, and gains nothing");
-    let held = tick_running(19999);
-    verdict(held.start & (held.state.sum == 1000));
-    say(b"run 1, full sum, minimum delay 40, sample 19000: trips at tick 39");
-    verdict(trips_first_at(19000, 39));
+pub(crate) fn phase_examples(rt: HostRuntime) {
+    say(rt, b"\nOne phase, IEC VeryInv\n");
     say(
+        rt,
+        b"from clear, start current 200, sample 20000: not started",
+    );
+    verdict(rt, !starts(200, 20000));
+    say(rt, b"from clear, start current 200, sample 20001: started");
+    verdict(rt, starts(200, 20001));
+    say(
+        rt,
+        b"from clear, start current 3000, sample 4294967295: started",
+    );
+    verdict(rt, starts(3000, 4294967295));
+    say(rt, b"run 1, start current 200, sample 19000: stays started");
+    verdict(rt, tick_running(19000).start);
+    say(rt, b"run 1, start current 200, sample 18999: drops out");
+    verdict(rt, !tick_running(18999).start);
+    say(
+        rt,
+        b"run 1, start current 200, sample 19999: started, and gains nothing",
+    );
+    let held = tick_running(19999);
+    verdict(rt, held.start & (held.state.sum == 1000));
+    say(
+        rt,
+        b"run 1, full sum, minimum delay 40, sample 19000: trips at tick 39",
+    );
+    verdict(rt, trips_first_at(19000, 39));
+    say(
+        rt,
         b"run 1, full sum, minimum delay 40, sample 20001: trips at tick 39, though it gains nothing",
     );
-    verdict(trips_first_at(20001, 39));
-    say(b"reset time 60, 59 idle ticks keep the sum");
-    verdict(sum_after(59) == 1000);
-    say(b"reset time 60, 60 idle ticks clear it");
-    verdict(sum_after(60) == 0);
-    definite_examples();
+    verdict(rt, trips_first_at(20001, 39));
+    say(rt, b"reset time 60, 59 idle ticks keep the sum");
+    verdict(rt, sum_after(59) == 1000);
+    say(rt, b"reset time 60, 60 idle ticks clear it");
+    verdict(rt, sum_after(60) == 0);
+    definite_examples(rt);
 }

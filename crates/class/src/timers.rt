@@ -12,36 +12,36 @@ fn plain(on: bool) -> Inputs {
     }
 }
 
-fn mark(on: bool) {
+fn mark(rt: HostRuntime, on: bool) {
     if on {
-        say(b"1");
+        say(rt, b"1");
     } else {
-        say(b"0");
+        say(rt, b"0");
     }
 }
 
 // Two ticks on, one off, one on, from fresh: what Hold and Set delay with d 0 give at each.
-pub(crate) fn timer_examples() {
-    say(b"\nTimers with d 0, from fresh; input 1101\n");
+pub(crate) fn timer_examples(rt: HostRuntime) {
+    say(rt, b"\nTimers with d 0, from fresh; input 1101\n");
     let fresh = TimerState::fresh();
     let h1 = hold(fresh, 0, plain(true));
     let h2 = hold(h1.state, 0, plain(true));
     let h3 = hold(h2.state, 0, plain(false));
     let h4 = hold(h3.state, 0, plain(true));
-    say(b"Hold is never on: ");
-    mark(h1.on);
-    mark(h2.on);
-    mark(h3.on);
-    mark(h4.on);
-    say(b"\n");
+    say(rt, b"Hold is never on: ");
+    mark(rt, h1.on);
+    mark(rt, h2.on);
+    mark(rt, h3.on);
+    mark(rt, h4.on);
+    say(rt, b"\n");
     let s1 = set_delay(fresh, 0, plain(true));
     let s2 = set_delay(s1.state, 0, plain(true));
     let s3 = set_delay(s2.state, 0, plain(false));
     let s4 = set_delay(s3.state, 0, plain(true));
-    say(b"Set delay copies the input: ");
-    mark(s1.on);
-    mark(s2.on);
-    mark(s3.on);
-    mark(s4.on);
-    say(b"\n");
+    say(rt, b"Set delay copies the input: ");
+    mark(rt, s1.on);
+    mark(rt, s2.on);
+    mark(rt, s3.on);
+    mark(rt, s4.on);
+    say(rt, b"\n");
 }

@@ -8,17 +8,17 @@ use asked::{Asked, is_right, read_arguments};
 use program::{say, write_out};
 
 // Answers whether all of it was taken.
-fn write_number(n: u64) -> bool {
+fn write_number(rt: HostRuntime, n: u64) -> bool {
     let mut text = [0u8; 20];
     let count = io::decimal(n, &mut text);
-    write_out(&text[..count]) == count
+    write_out(rt, &text[..count]) == count
 }
 
-fn write_line(ratio: u32, time: u64) -> bool {
-    write_number(ratio as u64)
-        && write_out(b",") == 1
-        && write_number(time)
-        && write_out(b"\n") == 1
+fn write_line(rt: HostRuntime, ratio: u32, time: u64) -> bool {
+    write_number(rt, ratio as u64)
+        && write_out(rt, b",") == 1
+        && write_number(rt, time)
+        && write_out(rt, b"\n") == 1
 }
 
 // 0 where the curve has no time at the ratio.
@@ -30,24 +30,25 @@ fn time_at(operation: u32, ratio: u32) -> u64 {
     }
 }
 
-fn write_times(asked: Asked) {
+fn write_times(rt: HostRuntime, asked: Asked) {
     for ratio in asked.first..=asked.last {
         let time = time_at(asked.operation, ratio);
         if time != 0 {
-            if !write_line(ratio, time) {
+            if !write_line(rt, ratio, time) {
                 return;
             }
         }
     }
 }
 
-fn main() {
-    let asked = read_arguments();
-    if !is_right(asked) {
+fn main(rt: HostRuntime) {
+    let asked = read_arguments(rt);
+    if !is_right(rt, asked) {
         say(
+            rt,
             b"failed: curves takes an operation, 2 to 12, and two ratios in hundredths, 0 to 2000\n",
         );
         return;
     }
-    write_times(asked);
+    write_times(rt, asked);
 }

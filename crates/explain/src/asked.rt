@@ -1,4 +1,5 @@
 // What the program is asked for: a row, or all of them; its one argument.
+use program::{argument, argument_count};
 use text::number::read_digits;
 
 // A row's number has so many digits at most.
@@ -28,21 +29,21 @@ fn is_all(text: &[u8]) -> bool {
         & (text[4] == b'l')
 }
 
-pub(crate) fn asks_all() -> bool {
-    if os::arg_count() != 2 {
+pub(crate) fn asks_all(rt: HostRuntime) -> bool {
+    if argument_count(rt) != 2 {
         return false;
     }
     let mut text = [0u8; WIDTH];
-    let n = os::arg(1, &mut text);
+    let n = argument(rt, 1, &mut text);
     is_all(&text[..n])
 }
 
 // 0 where there is no argument, more than one, or one that is no row number.
-pub(crate) fn asked_row() -> u32 {
-    if os::arg_count() != 2 {
+pub(crate) fn asked_row(rt: HostRuntime) -> u32 {
+    if argument_count(rt) != 2 {
         return 0;
     }
     let mut text = [0u8; WIDTH];
-    let n = os::arg(1, &mut text);
+    let n = argument(rt, 1, &mut text);
     number_of(&text[..n])
 }

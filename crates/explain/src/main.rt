@@ -19,33 +19,33 @@ const SMALL_PORTION: usize = 4096;
 
 const ROOM: usize = EXPLAIN_SPREAD * (LONGEST_LINE + SMALL_PORTION);
 
-fn say_missing(row: u32, done: u32) {
-    say(b"the recording has no row ");
-    say_number(row as u64);
-    say(b"; rows done: ");
-    say_number(done as u64);
-    say(b"\n");
+fn say_missing(rt: HostRuntime, row: u32, done: u32) {
+    say(rt, b"the recording has no row ");
+    say_number(rt, row as u64);
+    say(rt, b"; rows done: ");
+    say_number(rt, done as u64);
+    say(rt, b"\n");
 }
 
 // A portion fits its room in the form; the numbers are those of the two constants.
-fn run(form: Form) -> Ended
+fn run(rt: HostRuntime, form: Form) -> Ended
     requires { portion_room form longest_line 4096 ≤ 190486 }
 {
     let mut portion = [0u8; SMALL_PORTION];
     let mut out = [0u8; ROOM];
-    runs::run(form, Configuration::Absent, &mut portion, &mut out)
+    runs::run(rt, form, Configuration::Absent, &mut portion, &mut out)
 }
 
-fn explain_all() {
-    let end = run(Form::ExplainAll);
+fn explain_all(rt: HostRuntime) {
+    let end = run(rt, Form::ExplainAll);
     if end.failed {
         return;
     }
-    runs::tell(end.state);
+    runs::tell(rt, end.state);
 }
 
-fn explain(row: u32) {
-    let end = run(Form::Explain(row));
+fn explain(rt: HostRuntime, row: u32) {
+    let end = run(rt, Form::Explain(row));
     if end.failed {
         return;
     }
@@ -53,20 +53,23 @@ fn explain(row: u32) {
     if files::has_answered(state) {
         return;
     }
-    if runs::tell(state) == 0 {
-        say_missing(row, state.progress.done);
+    if runs::tell(rt, state) == 0 {
+        say_missing(rt, row, state.progress.done);
     }
 }
 
-fn main() {
-    if asks_all() {
-        explain_all();
+fn main(rt: HostRuntime) {
+    if asks_all(rt) {
+        explain_all(rt);
         return;
     }
-    let row = asked_row();
+    let row = asked_row(rt);
     if row == 0 {
-        say(b"failed: explain takes one row number, 1 to 999999, or --all\n");
+        say(
+            rt,
+            b"failed: explain takes one row number, 1 to 999999, or --all\n",
+        );
         return;
     }
-    explain(row);
+    explain(rt, row);
 }

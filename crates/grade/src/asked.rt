@@ -1,5 +1,6 @@
 // The margin that the program is asked for: its one argument.
 use grading::margin::difference;
+use program::{argument, argument_count};
 use text::number::read_digits;
 
 // A margin has so many digits at most, and so many ticks.
@@ -58,11 +59,11 @@ fn margin_of(text: &[u8]) -> Asked {
 }
 
 // Not right where there is no argument, more than one, or one that is no margin. One that does not fit its memory comes as no bytes.
-pub(crate) fn asked_margin() -> Asked {
-    if os::arg_count() != 2 {
+pub(crate) fn asked_margin(rt: HostRuntime) -> Asked {
+    if argument_count(rt) != 2 {
         return wrong();
     }
     let mut text = [0u8; WIDTH + 1];
-    let n = os::arg(1, &mut text);
+    let n = argument(rt, 1, &mut text);
     margin_of(&text[..n])
 }

@@ -32,12 +32,12 @@ pub(crate) enum Lines {
 }
 
 // Reads to the end of the input, or until the memory is full: what comes after that does not matter.
-fn read_input(bytes: &mut [u8]) -> Portion
+fn read_input(rt: HostRuntime, bytes: &mut [u8]) -> Portion
     ensures { IsPrefixLen result.count bytes.new }
 {
     let mut n = 0;
     while n < bytes.len() {
-        let got = read_portion(&mut bytes[n..]);
+        let got = read_portion(rt, &mut bytes[n..]);
         if got.failed {
             return Portion {
                 count: n,
@@ -130,9 +130,9 @@ fn lines_of(upstream: SettingsRead, downstream: SettingsRead) -> Lines {
     }
 }
 
-pub(crate) fn read_lines() -> Lines {
+pub(crate) fn read_lines(rt: HostRuntime) -> Lines {
     let mut bytes = [0u8; ROOM];
-    let got = read_input(&mut bytes);
+    let got = read_input(rt, &mut bytes);
     if got.failed {
         return Lines::Unread;
     }

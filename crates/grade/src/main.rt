@@ -19,16 +19,16 @@ use rows::Refusal;
 use words::say_reason;
 
 // Every refusal that the program meets names a relay.
-fn say_relay(relay: Relay) -> usize {
+fn say_relay(rt: HostRuntime, relay: Relay) -> usize {
     match relay {
-        Relay::Upstream => say(b"upstream"),
-        Relay::Downstream => say(b"downstream"),
+        Relay::Upstream => say(rt, b"upstream"),
+        Relay::Downstream => say(rt, b"downstream"),
         Relay::Neither => 0,
     }
 }
 
 // The end line, the relay's name and the reason.
-fn refuse(relay: Relay, refusal: Refusal) {
+fn refuse(rt: HostRuntime, relay: Relay, refusal: Refusal) {
     let end = Graded {
         refusal: grading::refusal::Refusal {
             number: refusal.number,
@@ -38,20 +38,20 @@ fn refuse(relay: Relay, refusal: Refusal) {
         smallest: 0,
         ratio: 0,
     };
-    if !write_end(end) {
+    if !write_end(rt, end) {
         return;
     }
-    say_relay(relay);
-    say_reason(refusal);
+    say_relay(rt, relay);
+    say_reason(rt, refusal);
 }
 
-fn grade(upstream: Settings, downstream: Settings, wanted: i64) {
+fn grade(rt: HostRuntime, upstream: Settings, downstream: Settings, wanted: i64) {
     let mut list = [0u32; Graded::RATIO_COUNT];
     let graded = margins(upstream, downstream, wanted, &mut list);
     let refusal = graded.refusal;
     if refusal.number != 0 {
         let relay = refusal.relay;
-        refuse(relay, rows::refuse(refusal.number));
+        refuse(rt, relay, rows::refuse(refusal.number));
         return;
     }
     for i in 0..Graded::RATIO_COUNT {
@@ -60,33 +60,34 @@ fn grade(upstream: Settings, downstream: Settings, wanted: i64) {
         }
         let ratio = list[i];
         let margin = margin_at(upstream, downstream, ratio);
-        if !write_margin(ratio, margin) {
+        if !write_margin(rt, ratio, margin) {
             return;
         }
     }
-    write_end(graded);
+    write_end(rt, graded);
 }
 
-fn main() {
-    let asked = asked_margin();
+fn main(rt: HostRuntime) {
+    let asked = asked_margin(rt);
     if !asked.is_right {
         say(
+            rt,
             b"failed: grade takes one wanted margin in ticks, 1 to 10 digits after an optional minus\n",
         );
         return;
     }
-    let lines = read_lines();
+    let lines = read_lines(rt);
     match lines {
         Lines::Unread => {}
         Lines::Refused(refused) => {
             let relay = refused.relay;
             let refusal = refused.refusal;
-            refuse(relay, refusal);
+            refuse(rt, relay, refusal);
         }
         Lines::Read(relays) => {
             let upstream = relays.upstream;
             let downstream = relays.downstream;
-            grade(upstream, downstream, asked.wanted);
+            grade(rt, upstream, downstream, asked.wanted);
         }
     }
 }

@@ -51,26 +51,26 @@ fn put_signed(out: &mut [u8], at: usize, z: i64) -> usize {
 }
 
 // Writes the line of the first n bytes, closed by LF, and answers whether all of it was taken.
-fn write_line(line: &mut [u8], n: usize) -> bool {
+fn write_line(rt: HostRuntime, line: &mut [u8], n: usize) -> bool {
     let end = put(line, n, b"\n");
     if line.len() < end {
         return false;
     }
-    write_out(&line[..end]) == end
+    write_out(rt, &line[..end]) == end
 }
 
 // `ratio,upstream,downstream,difference`
-pub(crate) fn write_margin(ratio: u32, margin: Margin) -> bool {
+pub(crate) fn write_margin(rt: HostRuntime, ratio: u32, margin: Margin) -> bool {
     let mut line = [0u8; ROOM];
     let at_upstream = put_first(&mut line, 0, ratio as u64);
     let at_downstream = put_first(&mut line, at_upstream, margin.upstream);
     let at_difference = put_first(&mut line, at_downstream, margin.downstream);
     let end = put_signed(&mut line, at_difference, margin.difference);
-    write_line(&mut line, end)
+    write_line(rt, &mut line, end)
 }
 
 // `end,COUNT,SMALLEST,RATIO,NUMBER`
-pub(crate) fn write_end(graded: Graded) -> bool {
+pub(crate) fn write_end(rt: HostRuntime, graded: Graded) -> bool {
     let mut line = [0u8; ROOM];
     let refusal = graded.refusal;
     let at_count = put(&mut line, 0, b"end,");
@@ -79,5 +79,5 @@ pub(crate) fn write_end(graded: Graded) -> bool {
     let at_ratio = put(&mut line, after_it, b",");
     let at_number = put_first(&mut line, at_ratio, graded.ratio as u64);
     let end = put_number(&mut line, at_number, refusal.number as u64);
-    write_line(&mut line, end)
+    write_line(rt, &mut line, end)
 }

@@ -1,8 +1,8 @@
 // A portion of standard input, or of a file that is open.
 ghost use Rattle.io.specs.Counts.{IsPrefixLen};
 
-use crate::failure::say_failure;
-use libc::{EINTR, STDIN_FILENO};
+use crate::failure::{EINTR, say_failure};
+use std::io::{Error, ErrorKind, Read};
 
 // How many bytes were read: none at the end of the input, and where the read failed.
 #[derive(Clone, Copy)]
@@ -12,42 +12,43 @@ pub struct Portion {
 }
 
 // A read that failed, told on standard error.
-fn tell_failed(name: &[u8], buf: &[u8]) -> Portion
+fn tell_failed(rt: HostRuntime, name: &[u8], error: Error, buf: &[u8]) -> Portion
     ensures { IsPrefixLen result.count buf.now }
 {
-    say_failure(b"reading ", name);
-    let count = io::count(0, buf);
+    say_failure(rt, b"reading ", name, error);
     Portion {
-        count,
+        count: 0,
         failed: true,
     }
 }
 
-// Reads once into the front of `buf`, from a descriptor. A read that fails is told on standard error, with the name.
-pub fn read_portion_of(fd: i32, name: &[u8], buf: &mut [u8]) -> Portion
+// Reads once into the front of `buf`. A read that fails is told on standard error, with the name.
+pub fn read_portion_of<R: Read>(
+    rt: HostRuntime,
+    from: &mut R,
+    name: &[u8],
+    buf: &mut [u8],
+) -> Portion
     ensures { IsPrefixLen result.count buf.new }
 {
     // A function must be seen to end. No call is interrupted so often.
-    let mut tries = u64::MAX;
-    while tries > 0 {
-        let got = libc::read(fd, buf);
-        if 0 <= got {
-            let count = io::count(got, buf);
-            return Portion {
-                count,
-                failed: false,
-            };
+    for _ in 0..u64::MAX {
+        match from.read(buf) {
+            Ok(count) => {
+                return Portion {
+                    count,
+                    failed: false,
+                };
+            }
+            Err(error) if error.kind() == ErrorKind::Interrupted => {}
+            Err(error) => return tell_failed(rt, name, error, buf),
         }
-        if os::errno() != EINTR {
-            return tell_failed(name, buf);
-        }
-        tries -= 1;
     }
-    tell_failed(name, buf)
+    tell_failed(rt, name, Error::from_raw_os_error(EINTR), buf)
 }
 
-pub fn read_portion(buf: &mut [u8]) -> Portion
+pub fn read_portion(rt: HostRuntime, buf: &mut [u8]) -> Portion
     ensures { IsPrefixLen result.count buf.new }
 {
-    read_portion_of(STDIN_FILENO, b"standard input", buf)
+    read_portion_of(rt, &mut rt.stdin(), b"standard input", buf)
 }

@@ -2,11 +2,13 @@
 // read, write or open that a signal interrupts is tried again.
 #![tactic(auto)]
 
+mod arguments;
 mod failure;
 mod file;
 mod input;
 mod output;
 
-pub use file::{close_file, open_file, path_argument};
+pub use arguments::{argument, argument_count, path_argument};
+pub use file::{PATH_ROOM, open_file};
 pub use input::{Portion, read_portion, read_portion_of};
 pub use output::{say, say_number, write_out};

@@ -4,65 +4,71 @@ ghost use Rattle.std.specs.Prelude.{◌+◌, ◌≤◌, length};
 ghost use Rattle.io.specs.Counts.{IsPrefixLen};
 ghost use Rattle.program.specs.Output.{NumberSaid};
 
-use crate::failure::say_failure;
-use libc::{EINTR, STDERR_FILENO, STDOUT_FILENO};
+use crate::failure::{EINTR, say_failure};
+use io::decimal;
+use std::io::{Error, ErrorKind, Result, Write};
 
-// One write of the bytes from a place on; answers how many were taken.
-fn write_from(fd: i32, bytes: &[u8], from: usize) -> usize
-    requires { from ≤ length bytes.now }
-    ensures { from + result ≤ length bytes.now }
-{
-    let rest = &bytes[from..];
-    io::count(libc::write(fd, rest), rest)
+// How many bytes were taken, and what ended it: `Ok` where nothing failed.
+#[derive(Drop)]
+struct Written {
+    count: usize,
+    ended: Result<()>,
 }
 
-// Writes the bytes and answers how many were taken: fewer than all where a write failed.
-fn write_all(fd: i32, bytes: &[u8]) -> usize
-    ensures { IsPrefixLen result bytes.now }
+// Writes the bytes; where they were not all taken, a write failed.
+fn write_all<W: Write>(to: &mut W, bytes: &[u8]) -> Written
+    ensures { IsPrefixLen result.count bytes.now }
 {
+    let mut count = 0;
     // A function must be seen to end. No output takes so many calls.
-    let mut tries = u64::MAX;
-    let mut done = 0;
-    while done < bytes.len() {
-        if tries == 0 {
-            return done;
+    for _ in 0..u64::MAX {
+        if count == bytes.len() {
+            return Written {
+                count,
+                ended: Ok(()),
+            };
         }
-        tries -= 1;
-        let put = write_from(fd, bytes, done);
-        if put == 0 {
-            if os::errno() != EINTR {
-                return done;
+        match to.write(&bytes[count..]) {
+            Ok(0) => {
+                let ended = Err(Error::from(ErrorKind::WriteZero));
+                return Written { count, ended };
+            }
+            Ok(taken) => count += taken,
+            Err(error) if error.kind() == ErrorKind::Interrupted => {}
+            Err(error) => {
+                let ended = Err(error);
+                return Written { count, ended };
             }
         }
-        done += put;
     }
-    done
+    let ended = Err(Error::from_raw_os_error(EINTR));
+    Written { count, ended }
 }
 
 // Writes to standard output and answers how many bytes were taken: fewer than all where a write failed, which is told on
 // standard error.
-pub fn write_out(bytes: &[u8]) -> usize
+pub fn write_out(rt: HostRuntime, bytes: &[u8]) -> usize
     ensures { IsPrefixLen result bytes.now }
 {
-    let put = write_all(STDOUT_FILENO, bytes);
-    if put < bytes.len() {
-        say_failure(b"writing ", b"standard output");
+    let written = write_all(&mut rt.stdout(), bytes);
+    if let Err(error) = written.ended {
+        say_failure(rt, b"writing ", b"standard output", error);
     }
-    put
+    written.count
 }
 
 // Words for a person, on standard error; answers how many bytes were taken.
-pub fn say(words: &[u8]) -> usize
+pub fn say(rt: HostRuntime, words: &[u8]) -> usize
     ensures { IsPrefixLen result words.now }
 {
-    write_all(STDERR_FILENO, words)
+    write_all(&mut rt.stderr(), words).count
 }
 
 // A number for a person, on standard error: the fewest decimal digits that hold it. Answers how many of them were taken.
-pub fn say_number(n: u64) -> usize
+pub fn say_number(rt: HostRuntime, n: u64) -> usize
     ensures { NumberSaid n result }
 {
     let mut text = [0u8; 20];
-    let count = io::decimal(n, &mut text);
-    say(&text[..count])
+    let count = decimal(n, &mut text);
+    say(rt, &text[..count])
 }

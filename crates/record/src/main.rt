@@ -9,12 +9,18 @@ use steps::{Configuration, Form, RECORD_SPREAD};
 // Room for the rows of a portion, whatever the state holds.
 const ROOM: usize = RECORD_SPREAD * (LONGEST_LINE + PORTION);
 
-fn main() {
+fn main(rt: HostRuntime) {
     let mut portion = [0u8; PORTION];
     let mut rows = [0u8; ROOM];
-    let end = runs::run(Form::Record, Configuration::Absent, &mut portion, &mut rows);
+    let end = runs::run(
+        rt,
+        Form::Record,
+        Configuration::Absent,
+        &mut portion,
+        &mut rows,
+    );
     if end.failed {
         return;
     }
-    runs::tell(end.state);
+    runs::tell(rt, end.state);
 }

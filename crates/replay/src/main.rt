@@ -11,22 +11,25 @@ use steps::{END_ROOM, Form};
 // Room for the change lines of a portion, whatever the state holds.
 const ROOM: usize = LONGEST_LINE + PORTION;
 
-fn main() {
-    if !arguments::are_right() {
-        program::say(b"failed: replay takes no argument, or --config and a file's name\n");
+fn main(rt: HostRuntime) {
+    if !arguments::are_right(rt) {
+        program::say(
+            rt,
+            b"failed: replay takes no argument, or --config and a file's name\n",
+        );
         return;
     }
     let mut portion = [0u8; PORTION];
-    let configuration = arguments::asked_configuration(&mut portion);
+    let configuration = arguments::asked_configuration(rt, &mut portion);
     let mut changes = [0u8; ROOM];
-    let end = runs::run(Form::Changes, configuration, &mut portion, &mut changes);
+    let end = runs::run(rt, Form::Changes, configuration, &mut portion, &mut changes);
     if end.failed {
         return;
     }
     let state = end.state;
     let mut out = [0u8; END_ROOM];
     let w = files::finish(state, &mut out);
-    if program::write_out(&out[..w]) == w {
-        runs::tell(state);
+    if program::write_out(rt, &out[..w]) == w {
+        runs::tell(rt, state);
     }
 }

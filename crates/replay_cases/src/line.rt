@@ -1,10 +1,9 @@
 // How a line of the cases is written.
-use libc::STDOUT_FILENO;
-
-pub(crate) fn say(text: &[u8]) {
-    io::write_all(STDOUT_FILENO, text);
+// What standard output does not take is let go: who compares the lines misses them.
+pub(crate) fn say(rt: HostRuntime, text: &[u8]) {
+    let _ = rt.write_all(text);
 }
 
-pub(crate) fn say_count(n: usize) {
-    io::print_decimal(STDOUT_FILENO, n as u64);
+pub(crate) fn say_count(rt: HostRuntime, n: usize) {
+    let _ = rt.print(n);
 }

@@ -28,7 +28,7 @@ fn past_line_end(text: &[u8], at: usize) -> usize
 }
 
 // Runs the case that begins at a place, and answers where the next begins.
-fn run_at(list: &[u8], at: usize) -> usize
+fn run_at(rt: HostRuntime, list: &[u8], at: usize) -> usize
     requires { at < length list.now }
     ensures { (at < result) × (result ≤ length list.now) }
 {
@@ -39,17 +39,17 @@ fn run_at(list: &[u8], at: usize) -> usize
     }
     let start = colon + 1;
     let end = find(list, start, b';');
-    say(&list[name..colon]);
-    replayed(&list[start..end]);
+    say(rt, &list[name..colon]);
+    replayed(rt, &list[start..end]);
     if end == list.len() {
         return end;
     }
     end + 1
 }
 
-pub(crate) fn each(list: &[u8]) {
+pub(crate) fn each(rt: HostRuntime, list: &[u8]) {
     let mut at = 0;
     while at < list.len() {
-        at = run_at(list, at);
+        at = run_at(rt, list, at);
     }
 }

@@ -26,12 +26,12 @@ fn without_settings() -> Replay {
 }
 
 // The row's tick is refused, by the first setting out of range: the row is not done, and the replay stops.
-pub(crate) fn row_without_settings() {
-    say(b"a row without accepted settings: ");
+pub(crate) fn row_without_settings(rt: HostRuntime) {
+    say(rt, b"a row without accepted settings: ");
     let mut out = [0u8; 100];
     let t = files::feed(without_settings(), b"1,0,20001,0,0,0\r\n", &mut out);
     let after = t.state;
     let mut end = [0u8; END_ROOM];
     let n = files::finish(after, &mut end);
-    say(&end[..n]);
+    say(rt, &end[..n]);
 }

@@ -12,17 +12,17 @@ mod run;
 use list::each;
 
 // As bytes of the code the cases would make its check longer.
-fn read_cases() {
+fn read_cases(rt: HostRuntime) {
     let mut cases = [0u8; 8192];
-    let got = program::read_portion(&mut cases);
+    let got = program::read_portion(rt, &mut cases);
     let n = got.count;
-    each(&cases[..n]);
+    each(rt, &cases[..n]);
 }
 
-fn main() {
-    read_cases();
-    room::feeds();
-    room::record_feeds();
-    room::ends();
-    made_up::row_without_settings();
+fn main(rt: HostRuntime) {
+    read_cases(rt);
+    room::feeds(rt);
+    room::record_feeds(rt);
+    room::ends(rt);
+    made_up::row_without_settings(rt);
 }

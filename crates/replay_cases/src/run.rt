@@ -79,18 +79,18 @@ fn alike_at_each_cut(input: &[u8], whole: &[u8]) -> bool {
 }
 
 // How long an input is, what its replay writes, and whether its portions matter.
-pub(crate) fn replayed(input: &[u8]) {
+pub(crate) fn replayed(rt: HostRuntime, input: &[u8]) {
     let mut out = [0u8; 1024];
     let n = replay(input, 0, input.len(), &mut out);
     let whole = &out[..n];
     if !alike_at_each_cut(input, whole) {
-        say(b" DIFFERS IF CUT");
+        say(rt, b" DIFFERS IF CUT");
     }
     if !alike(input, 0, 1, whole) {
-        say(b" DIFFERS BYTE BY BYTE");
+        say(rt, b" DIFFERS BYTE BY BYTE");
     }
-    say(b" (");
-    say_count(input.len());
-    say(b" bytes)\n");
-    say(whole);
+    say(rt, b" (");
+    say_count(rt, input.len());
+    say(rt, b" bytes)\n");
+    say(rt, whole);
 }

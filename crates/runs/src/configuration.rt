@@ -2,16 +2,16 @@
 ghost use Rattle.runs.specs.Configuration.{ReaderReached, ConfigReached};
 
 use config::{ConfigRead, Reader};
+use std::fs::File;
 
 // To the end of the file, or to a refusal, after which nothing changes the answer. A file that cannot be read is taken as empty.
-fn read_file(fd: i32, path: &[u8], portion: &mut [u8]) -> Reader
+fn read_file(rt: HostRuntime, mut file: File, path: &[u8], portion: &mut [u8]) -> Reader
     ensures { ReaderReached result }
 {
     let mut reader = Reader::fresh();
     // A function must be seen to end. No file has so many portions.
-    let mut portions = u64::MAX;
-    while portions > 0 {
-        let got = program::read_portion_of(fd, path, portion);
+    for _ in 0..u64::MAX {
+        let got = program::read_portion_of(rt, &mut file, path, portion);
         if got.failed {
             return Reader::fresh();
         }
@@ -24,21 +24,18 @@ fn read_file(fd: i32, path: &[u8], portion: &mut [u8]) -> Reader
         if reader.reading.refusal != 0 {
             break;
         }
-        portions -= 1;
     }
     reader
 }
 
 // A file that cannot be opened is taken as empty too; either is told on standard error. Of the file no contract can say more than
 // that it came in some portions.
-pub fn read_configuration(path: &[u8], portion: &mut [u8]) -> ConfigRead
+pub fn read_configuration(rt: HostRuntime, path: &[u8], portion: &mut [u8]) -> ConfigRead
     ensures { ConfigReached result }
 {
-    let fd = program::open_file(path);
-    if fd < 0 {
-        return Reader::fresh().finish();
-    }
-    let reader = read_file(fd, path, portion);
-    program::close_file(fd);
+    let reader = match program::open_file(rt, path) {
+        Some(file) => read_file(rt, file, path, portion),
+        None => Reader::fresh(),
+    };
     reader.finish()
 }

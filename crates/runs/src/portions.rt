@@ -36,11 +36,11 @@ fn take_portion(state: Replay, portion: &[u8], out: &mut [u8]) -> Fed
 }
 
 // Reads a portion into lent memory and writes what it gives.
-fn one_turn(state: Replay, portion: &mut [u8], out: &mut [u8]) -> Turn
+fn one_turn(rt: HostRuntime, state: Replay, portion: &mut [u8], out: &mut [u8]) -> Turn
     requires { (Sound state) × (portion_room state.form longest_line (length portion.old) ≤ length out.old) }
     ensures { Reached state result.state }
 {
-    let got = program::read_portion(portion);
+    let got = program::read_portion(rt, portion);
     let n = got.count;
     if n == 0 {
         return Turn {
@@ -51,7 +51,7 @@ fn one_turn(state: Replay, portion: &mut [u8], out: &mut [u8]) -> Turn
     }
     let t = take_portion(state, &portion[..n], out);
     let w = t.written;
-    let put = program::write_out(&out[..w]);
+    let put = program::write_out(rt, &out[..w]);
     let after = t.state;
     let over = files::has_stopped(after) | files::has_answered(after);
     Turn {
@@ -64,15 +64,20 @@ fn one_turn(state: Replay, portion: &mut [u8], out: &mut [u8]) -> Turn
 // To the end of the input, to a refusal, or to the row that was asked for: what follows would write nothing. Of the input no
 // contract can say more than that it came in some portions. The program lends the memory, since a form decides how much a
 // portion may write, and to make it anew at each turn is dear.
-pub fn run(form: Form, configuration: Configuration, portion: &mut [u8], out: &mut [u8]) -> Ended
+pub fn run(
+    rt: HostRuntime,
+    form: Form,
+    configuration: Configuration,
+    portion: &mut [u8],
+    out: &mut [u8],
+) -> Ended
     requires { portion_room form longest_line (length portion.old) ≤ length out.old }
     ensures { Reached (fresh_replay form configuration) result.state }
 {
     let mut state = Replay::fresh(form, configuration);
     // A function must be seen to end. No input has so many portions.
-    let mut portions = u64::MAX;
-    while portions > 0 {
-        let t = one_turn(state, portion, out);
+    for _ in 0..u64::MAX {
+        let t = one_turn(rt, state, portion, out);
         let after = t.state;
         state = after;
         if t.failed {
@@ -84,7 +89,6 @@ pub fn run(form: Form, configuration: Configuration, portion: &mut [u8], out: &m
         if t.over {
             break;
         }
-        portions -= 1;
     }
     Ended {
         state,

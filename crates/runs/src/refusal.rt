@@ -11,19 +11,19 @@ use steps::{Configuration, END_ROOM, Form};
 use words::say_reason;
 
 // The end line without its LF.
-fn say_end(state: Replay) {
+fn say_end(rt: HostRuntime, state: Replay) {
     let mut out = [0u8; END_ROOM];
     let w = files::finish(state, &mut out);
-    say(&out[..w - 1]);
-    say(b": ");
+    say(rt, &out[..w - 1]);
+    say(rt, b": ");
 }
 
 // The record has no end line on standard output: it begins what is said.
-fn say_end_of_record(state: Replay) {
+fn say_end_of_record(rt: HostRuntime, state: Replay) {
     let form = state.form;
     match form {
         Form::Changes => {}
-        Form::Record => say_end(state),
+        Form::Record => say_end(rt, state),
         Form::Explain(_) => {}
         Form::ExplainAll => {}
     }
@@ -41,32 +41,32 @@ fn refused_line(configuration: Configuration) -> u32 {
 }
 
 // After the settings line: a line of the configuration, or the row due.
-fn say_line(configuration: Configuration, done: u32) -> usize {
+fn say_line(rt: HostRuntime, configuration: Configuration, done: u32) -> usize {
     let line = refused_line(configuration);
     if line != 0 {
-        say(b"line ");
-        say_number(line as u64);
-        return say(b" of the configuration");
+        say(rt, b"line ");
+        say_number(rt, line as u64);
+        return say(rt, b" of the configuration");
     }
-    say(b"row ");
-    say_number(done as u64 + 1)
+    say(rt, b"row ");
+    say_number(rt, done as u64 + 1)
 }
 
 // What was refused: the settings that a replay holds pass their check once a settings line was accepted.
-fn say_what(state: Replay, refusal: Refusal) -> usize {
+fn say_what(rt: HostRuntime, state: Replay, refusal: Refusal) -> usize {
     let progress = state.progress;
     if progress.settings.check() != 0 {
-        return say(b"settings line");
+        return say(rt, b"settings line");
     }
     if refusal.number == WRONG_LAST_SAMPLE {
-        return say(b"recording");
+        return say(rt, b"recording");
     }
     let configuration = progress.configuration;
-    say_line(configuration, progress.done)
+    say_line(rt, configuration, progress.done)
 }
 
 // Says nothing where nothing was refused. Answers the refusal's number, which is all that a contract can say of it.
-pub fn tell(state: Replay) -> u32
+pub fn tell(rt: HostRuntime, state: Replay) -> u32
     ensures { result ≡ (refusal_at_end state).number }
 {
     let refusal = files::refusal_at_end(state);
@@ -74,7 +74,7 @@ pub fn tell(state: Replay) -> u32
     if number == 0 {
         return number;
     }
-    say_end_of_record(state);
-    say_what(state, refusal);
-    say_reason(refusal)
+    say_end_of_record(rt, state);
+    say_what(rt, state, refusal);
+    say_reason(rt, refusal)
 }

@@ -10,22 +10,22 @@ pub enum Kind {
     FlipFlop,
 }
 
-fn say_kind(kind: Kind) {
+fn say_kind(rt: HostRuntime, kind: Kind) {
     match kind {
-        Kind::SetDelay => say(b"set delay"),
-        Kind::Hold => say(b"hold"),
-        Kind::ResetDelay => say(b"reset delay"),
-        Kind::FlipFlop => say(b"flip-flop"),
+        Kind::SetDelay => say(rt, b"set delay"),
+        Kind::Hold => say(rt, b"hold"),
+        Kind::ResetDelay => say(rt, b"reset delay"),
+        Kind::FlipFlop => say(rt, b"flip-flop"),
     }
 }
 
 // How every line begins: the timer, its delay, and the state that it begins with.
-pub(crate) fn say_begin(kind: Kind, d: u32, from: TimerState) {
-    say_kind(kind);
-    say(b", d ");
-    say_number(d);
-    say(b", from ");
-    say_state(from);
+pub(crate) fn say_begin(rt: HostRuntime, kind: Kind, d: u32, from: TimerState) {
+    say_kind(rt, kind);
+    say(rt, b", d ");
+    say_number(rt, d);
+    say(rt, b", from ");
+    say_state(rt, from);
 }
 
 // The flip-flop's set input is the start input. Its trip input is on where the or-input is and the and-input is not, so that

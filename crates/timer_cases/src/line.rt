@@ -1,33 +1,33 @@
 // How the parts of a line are written.
-use libc::STDOUT_FILENO;
 use timer::{Combination, TimerState};
 
-pub(crate) fn say(text: &[u8]) {
-    io::write_all(STDOUT_FILENO, text);
+// What standard output does not take is let go: who compares the lines misses them.
+pub(crate) fn say(rt: HostRuntime, text: &[u8]) {
+    let _ = rt.write_all(text);
 }
 
-pub(crate) fn say_number(n: u32) {
-    io::print_decimal(STDOUT_FILENO, n as u64);
+pub(crate) fn say_number(rt: HostRuntime, n: u32) {
+    let _ = rt.print(n);
 }
 
-pub(crate) fn say_bit(on: bool) {
-    io::print_decimal(STDOUT_FILENO, on as u64);
+pub(crate) fn say_bit(rt: HostRuntime, on: bool) {
+    say_number(rt, on as u32);
 }
 
 // Count, previous input and latch.
-pub(crate) fn say_state(state: TimerState) {
-    say_number(state.count);
-    say(b",");
-    say_bit(state.previous);
-    say(b",");
-    say_bit(state.latch);
+pub(crate) fn say_state(rt: HostRuntime, state: TimerState) {
+    say_number(rt, state.count);
+    say(rt, b",");
+    say_bit(rt, state.previous);
+    say(rt, b",");
+    say_bit(rt, state.latch);
 }
 
-pub(crate) fn say_combination(combination: Combination) {
+pub(crate) fn say_combination(rt: HostRuntime, combination: Combination) {
     match combination {
-        Combination::Plain => say(b", plain"),
-        Combination::Or => say(b", or"),
-        Combination::And => say(b", and"),
-        Combination::OrAnd => say(b", or-and"),
+        Combination::Plain => say(rt, b", plain"),
+        Combination::Or => say(rt, b", or"),
+        Combination::And => say(rt, b", and"),
+        Combination::OrAnd => say(rt, b", or-and"),
     }
 }

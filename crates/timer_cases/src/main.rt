@@ -9,8 +9,8 @@ mod line;
 mod runs;
 mod tables;
 
-fn main() {
-    tables::combinations();
-    limits::limits();
-    runs::runs();
+fn main(rt: HostRuntime) {
+    tables::combinations(rt);
+    limits::limits(rt);
+    runs::runs(rt);
 }

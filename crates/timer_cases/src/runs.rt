@@ -11,51 +11,49 @@ pub struct Place {
     pub x: u32,
 }
 
-fn say_load(load: Load) {
+fn say_load(rt: HostRuntime, load: Load) {
     let combination = load.combination;
-    say_combination(combination);
-    say(b", on ");
-    say_number(load.density);
-    say(b"/16, resets ");
-    say_bit(load.resets);
-    say(b": ");
+    say_combination(rt, combination);
+    say(rt, b", on ");
+    say_number(rt, load.density);
+    say(rt, b"/16, resets ");
+    say_bit(rt, load.resets);
+    say(rt, b": ");
 }
 
-fn step(kind: Kind, load: Load, d: u32, place: Place) -> Place {
+fn step(rt: HostRuntime, kind: Kind, load: Load, d: u32, place: Place) -> Place {
     let x = next(place.x);
     let timed = tick(kind, place.state, d, drawn(load, x));
-    say_bit(timed.on);
+    say_bit(rt, timed.on);
     let state = timed.state;
     Place { state, x }
 }
 
-fn steps(kind: Kind, load: Load, d: u32, from: Place) -> Place {
+fn steps(rt: HostRuntime, kind: Kind, load: Load, d: u32, from: Place) -> Place {
     let mut place = from;
-    let mut ticks = 0u32;
-    while ticks < 32 {
-        place = step(kind, load, d, place);
-        ticks += 1;
+    for _ in 0..32 {
+        place = step(rt, kind, load, d, place);
     }
     place
 }
 
 // Answers the generator's number after the run.
-fn run(kind: Kind, load: Load, state: TimerState, d: u32, x: u32) -> u32 {
-    say_begin(kind, d, state);
-    say_load(load);
-    let end = steps(kind, load, d, Place { state, x });
-    say(b"; ");
-    say_state(end.state);
-    say(b"\n");
+fn run(rt: HostRuntime, kind: Kind, load: Load, state: TimerState, d: u32, x: u32) -> u32 {
+    say_begin(rt, kind, d, state);
+    say_load(rt, load);
+    let end = steps(rt, kind, load, d, Place { state, x });
+    say(rt, b"; ");
+    say_state(rt, end.state);
+    say(rt, b"\n");
     end.x
 }
 
-fn each_delay(kind: Kind, load: Load, from: TimerState, seed: u32) -> u32 {
-    let after0 = run(kind, load, from, 0, seed);
-    let after1 = run(kind, load, from, 1, after0);
-    let after2 = run(kind, load, from, 2, after1);
-    let after5 = run(kind, load, from, 5, after2);
-    run(kind, load, from, 60000, after5)
+fn each_delay(rt: HostRuntime, kind: Kind, load: Load, from: TimerState, seed: u32) -> u32 {
+    let after0 = run(rt, kind, load, from, 0, seed);
+    let after1 = run(rt, kind, load, from, 1, after0);
+    let after2 = run(rt, kind, load, from, 2, after1);
+    let after5 = run(rt, kind, load, from, 5, after2);
+    run(rt, kind, load, from, 60000, after5)
 }
 
 fn begun(count: u32, previous: bool, latch: bool) -> TimerState {
@@ -67,11 +65,11 @@ fn begun(count: u32, previous: bool, latch: bool) -> TimerState {
 }
 
 // From fresh, from a low count, from one that can pass 60,000 in a run, and from the count's limit.
-fn each_state(kind: Kind, load: Load, seed: u32) -> u32 {
-    let fresh = each_delay(kind, load, TimerState::fresh(), seed);
-    let low = each_delay(kind, load, begun(3, true, false), fresh);
-    let high = each_delay(kind, load, begun(59990, false, false), low);
-    each_delay(kind, load, begun(60001, true, true), high)
+fn each_state(rt: HostRuntime, kind: Kind, load: Load, seed: u32) -> u32 {
+    let fresh = each_delay(rt, kind, load, TimerState::fresh(), seed);
+    let low = each_delay(rt, kind, load, begun(3, true, false), fresh);
+    let high = each_delay(rt, kind, load, begun(59990, false, false), low);
+    each_delay(rt, kind, load, begun(60001, true, true), high)
 }
 
 fn loaded(combination: Combination, density: u32, resets: bool) -> Load {
@@ -82,22 +80,22 @@ fn loaded(combination: Combination, density: u32, resets: bool) -> Load {
     }
 }
 
-fn each_load(kind: Kind, combination: Combination, seed: u32) -> u32 {
-    let often = each_state(kind, loaded(combination, 11, false), seed);
-    let seldom = each_state(kind, loaded(combination, 4, true), often);
-    each_state(kind, loaded(combination, 16, false), seldom)
+fn each_load(rt: HostRuntime, kind: Kind, combination: Combination, seed: u32) -> u32 {
+    let often = each_state(rt, kind, loaded(combination, 11, false), seed);
+    let seldom = each_state(rt, kind, loaded(combination, 4, true), often);
+    each_state(rt, kind, loaded(combination, 16, false), seldom)
 }
 
-fn each_combination(kind: Kind, seed: u32) -> u32 {
-    let plain = each_load(kind, Combination::Plain, seed);
-    let or = each_load(kind, Combination::Or, plain);
-    let and = each_load(kind, Combination::And, or);
-    each_load(kind, Combination::OrAnd, and)
+fn each_combination(rt: HostRuntime, kind: Kind, seed: u32) -> u32 {
+    let plain = each_load(rt, kind, Combination::Plain, seed);
+    let or = each_load(rt, kind, Combination::Or, plain);
+    let and = each_load(rt, kind, Combination::And, or);
+    each_load(rt, kind, Combination::OrAnd, and)
 }
 
-pub(crate) fn runs() {
-    let set_delay = each_combination(Kind::SetDelay, 1);
-    let hold = each_combination(Kind::Hold, set_delay);
-    let reset_delay = each_combination(Kind::ResetDelay, hold);
-    each_load(Kind::FlipFlop, Combination::Plain, reset_delay);
+pub(crate) fn runs(rt: HostRuntime) {
+    let set_delay = each_combination(rt, Kind::SetDelay, 1);
+    let hold = each_combination(rt, Kind::Hold, set_delay);
+    let reset_delay = each_combination(rt, Kind::ResetDelay, hold);
+    each_load(rt, Kind::FlipFlop, Combination::Plain, reset_delay);
 }

@@ -14,34 +14,32 @@ fn inputs_of(combination: Combination, n: u32) -> Inputs {
     }
 }
 
-fn all_inputs(kind: Kind, combination: Combination, d: u32, from: TimerState) {
-    let mut n = 0;
-    while n < 16 {
+fn all_inputs(rt: HostRuntime, kind: Kind, combination: Combination, d: u32, from: TimerState) {
+    for n in 0..16 {
         let timed = tick(kind, from, d, inputs_of(combination, n));
-        say_bit(timed.on);
-        n += 1;
+        say_bit(rt, timed.on);
     }
 }
 
-fn table(kind: Kind, combination: Combination, d: u32) {
+fn table(rt: HostRuntime, kind: Kind, combination: Combination, d: u32) {
     let fresh = TimerState::fresh();
-    say_begin(kind, d, fresh);
-    say_combination(combination);
-    say(b", all inputs: ");
-    all_inputs(kind, combination, d, fresh);
-    say(b"\n");
+    say_begin(rt, kind, d, fresh);
+    say_combination(rt, combination);
+    say(rt, b", all inputs: ");
+    all_inputs(rt, kind, combination, d, fresh);
+    say(rt, b"\n");
 }
 
-fn each_kind(combination: Combination) {
-    table(Kind::SetDelay, combination, 0);
-    table(Kind::Hold, combination, 1);
-    table(Kind::ResetDelay, combination, 0);
-    table(Kind::FlipFlop, combination, 0);
+fn each_kind(rt: HostRuntime, combination: Combination) {
+    table(rt, Kind::SetDelay, combination, 0);
+    table(rt, Kind::Hold, combination, 1);
+    table(rt, Kind::ResetDelay, combination, 0);
+    table(rt, Kind::FlipFlop, combination, 0);
 }
 
-pub(crate) fn combinations() {
-    each_kind(Combination::Plain);
-    each_kind(Combination::Or);
-    each_kind(Combination::And);
-    each_kind(Combination::OrAnd);
+pub(crate) fn combinations(rt: HostRuntime) {
+    each_kind(rt, Combination::Plain);
+    each_kind(rt, Combination::Or);
+    each_kind(rt, Combination::And);
+    each_kind(rt, Combination::OrAnd);
 }

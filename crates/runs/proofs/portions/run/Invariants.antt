@@ -1,9 +1,9 @@
--- `runs::portions::run` meets its contract and ends: each turn reaches a state from the one before.
+-- `runs::portions::run` meets its contract: each turn reaches a state from the one before, and the lent memory keeps its length.
 -- Assumes nothing.
+use Rattle.std.proofs.Common.{◌≡◌, length}
+use Rattle.files.specs.Replay.{Reached}
 use Rattle.runs.proofs.portions.run.Given as goal
 
-abbrev pub invariant-loop-portions : goal.invariant-loop-portions
-invariant-loop-portions l = Turned l.initial.state l.state l.initial.portion l.initial.out l.portion l.out
-
-abbrev pub decreases-loop-portions : goal.decreases-loop-portions
-decreases-loop-portions l = l.portions
+abbrev pub invariant-loop : goal.invariant-loop
+invariant-loop l =
+    Reached l.initial.state l.state × (length l.portion ≡ length l.initial.portion) × (length l.out ≡ length l.initial.out)

@@ -10,7 +10,9 @@ pub returns : goal.returns
 returns c =
     let a = c.args in
     let (sound, room) = c.requires in
-    let (answer, (output, within)) = c.feed.ensures in (
-      sound_answer a.state a.portion.now (length a.out.now) c.feed.result sound room answer,
-      (output ∙ ap (sets a.out.now 0) (sound_writes a.state a.portion.now (length a.out.now) sound room), within),
-    )
+    let fed = c.feed.ensures in
+    record {
+      fed = sound_answer a.state a.portion.now (length a.out.now) c.feed.result sound room fed.answer;
+      output = fed.output ∙ ap (sets a.out.now 0) (sound_writes a.state a.portion.now (length a.out.now) sound room);
+      within = fed.within;
+    }

@@ -8,10 +8,8 @@ use Rattle.runs.proofs.refusal.say_end.Goals as goal
 
 pub slice_bounds-out-count : goal.slice_bounds-out-count
 slice_bounds-out-count c =
-    let (written, (output, within)) = c.finish-w.ensures in
-    omega (arith, written, finish_some c.args.state end_room (omega arith))
+    omega (arith, c.finish-w.ensures.written, finish_some c.args.state end_room (omega arith))
 
 pub slice_bounds-say-length : goal.slice_bounds-say-length
 slice_bounds-say-length c =
-    let (written, (output, within)) = c.finish-w.ensures in
-    simp length-take (omega (arith, within))
+    simp length-take (omega (arith, c.finish-w.ensures.within))
