@@ -43,4 +43,4 @@ pub returns : goal.returns
 returns c =
     let a = c.args in
     due_line a.line a.l.now (sym c.in_range.ensures ∙ c.if-not-in_range.false) _
-    (line_closed _ a.l.now (omega (arith, c.if-l-gt-LONGEST_LINE.false)) (sym c.ends_cr_lf.ensures ∙ c.if-not-ends_cr_lf.false) _ c.body_fits.ensures)
+    (line_closed _ a.l.now (omega arith) (sym c.ends_cr_lf.ensures ∙ c.if-not-ends_cr_lf.false) _ c.body_fits.ensures)

@@ -10,4 +10,4 @@ pub returns-then-ratio-le100 : goal.returns-then-ratio-le100
 returns-then-ratio-le100 c = let a = c.args in sym (gain_zero_to_100 a.operation a.ratio (omega (arith, c.if-ratio-le100.true)))
 
 pub returns : goal.returns
-returns c = rw (lt-ltb 100 c.args.ratio (omega (arith, c.if-ratio-le100.false))) at c.change_of.ensures
+returns c = rw (lt-ltb 100 c.args.ratio (omega arith)) at c.change_of.ensures

@@ -25,18 +25,18 @@ returns-then-comma-last c =
     let a = c.args in
     let e = sym c.closes_none.ensures ∙ c.if-closes_none.false in
     let b = c.byte_at-comma in
-    c.flawed-then-comma-last.ensures ∙ closes_miscounted (drop a.at a.s.now) a.last a.digits a.at a.field e c.if-digits-eq0.false (eqb b.result comma) (begins_by a.s.now a.at comma (λ z. omega arith) ∙ ap (λ (n : ℕ). eqb n comma) (sym b.ensures)) c.if-comma-last.true
+    c.flawed-then-comma-last.ensures ∙ closes_miscounted (drop a.at a.s.now) a.last a.digits a.at a.field e (λ z. omega (arith, z)) (eqb b.result comma) (begins_by a.s.now a.at comma (λ z. omega arith) ∙ ap (λ (n : ℕ). eqb n comma) (sym b.ensures)) c.if-comma-last.true
 
 pub returns-then-comma : goal.returns-then-comma
 returns-then-comma c =
     let a = c.args in
     let e = sym c.closes_none.ensures ∙ c.if-closes_none.false in
     let b = c.byte_at-comma in
-    closes_next (drop a.at a.s.now) a.last a.digits a.at a.field e c.if-digits-eq0.false (begins_by a.s.now a.at comma (λ z. omega arith) ∙ ap (λ (n : ℕ). eqb n comma) (sym b.ensures) ∙ eq-eqb _ _ c.if-comma.true) (rw (eq-eqb b.result comma c.if-comma.true) at c.if-comma-last.false)
+    closes_next (drop a.at a.s.now) a.last a.digits a.at a.field e (λ z. omega (arith, z)) (begins_by a.s.now a.at comma (λ z. omega arith) ∙ ap (λ (n : ℕ). eqb n comma) (sym b.ensures) ∙ eq-eqb _ _ c.if-comma.true) (rw (eq-eqb b.result comma c.if-comma.true) at c.if-comma-last.false)
 
 pub returns : goal.returns
 returns c =
     let a = c.args in
     let e = sym c.closes_none.ensures ∙ c.if-closes_none.false in
     let b = c.byte_at-comma in
-    c.ending.ensures ∙ closes_ending (drop a.at a.s.now) a.last a.digits a.at a.field e c.if-digits-eq0.false (begins_by a.s.now a.at comma (λ z. omega arith) ∙ ap (λ (n : ℕ). eqb n comma) (sym b.ensures) ∙ ne_eqb _ _ c.if-comma.false) (rw (ne_eqb b.result comma c.if-comma.false) at c.if-comma-last.false)
+    c.ending.ensures ∙ closes_ending (drop a.at a.s.now) a.last a.digits a.at a.field e (λ z. omega (arith, z)) (begins_by a.s.now a.at comma (λ z. omega arith) ∙ ap (λ (n : ℕ). eqb n comma) (sym b.ensures) ∙ ne_eqb _ _ c.if-comma.false) (rw (ne_eqb b.result comma c.if-comma.false) at c.if-comma-last.false)

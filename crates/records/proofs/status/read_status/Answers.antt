@@ -20,12 +20,12 @@ overflow_mul-byte c =
 pub overflow_add-byte : goal.overflow_add-byte
 overflow_add-byte c =
     let l = c.loop-k in
-    omega (arith, c.if-bit-gt1.false, turn_small c.args.fields.now l.k l.byte l.invariant c.loop-k-test.true c.requires)
+    omega (arith, turn_small c.args.fields.now l.k l.byte l.invariant c.loop-k-test.true c.requires)
 
 pub loop-k-preserved : goal.loop-k-preserved
 loop-k-preserved c =
     let l = c.loop-k in
-    turn_down c.args.fields.now l.k (l.k - 1) l.byte l.invariant (omega (arith, c.loop-k-test.true)) (omega (arith, c.if-bit-gt1.false))
+    turn_down c.args.fields.now l.k (l.k - 1) l.byte l.invariant (omega (arith, c.loop-k-test.true)) (omega arith)
 
 pub returns : goal.returns
 returns c =

@@ -11,9 +11,9 @@ returns-then-refusal-ne0 c = rw (ne_eqb c.args.refusal.number 0 (λ z. omega (ar
 pub returns-then-last-done : goal.returns-then-last-done
 returns-then-last-done c =
     let a = c.args in
-    rw (eq-eqb a.refusal.number 0 (omega (arith, c.if-refusal-ne0.false)), eq-eqb a.last a.done (omega (arith, c.if-last-done.true)))
+    rw (eq-eqb a.refusal.number 0 (omega arith), eq-eqb a.last a.done (omega (arith, c.if-last-done.true)))
 
 pub returns : goal.returns
 returns c =
     let a = c.args in
-    c.refuse.ensures ∙ rw (eq-eqb a.refusal.number 0 (omega (arith, c.if-refusal-ne0.false)), ne_eqb a.last a.done (λ z. omega (arith, z, c.if-last-done.false)))
+    c.refuse.ensures ∙ rw (eq-eqb a.refusal.number 0 (omega arith), ne_eqb a.last a.done (λ z. omega (arith, z, c.if-last-done.false)))

@@ -14,5 +14,5 @@ pub returns : goal.returns
 returns c =
     let e = c.put_change.ensures in
     let a = c.args in
-    let n = ne_eqb a.outputs a.before c.if-outputs-before.false in
+    let n = ne_eqb a.outputs a.before (λ e. omega (arith, e)) in
     record { wrote = record { place_after = simp n e.wrote.place_after; output = simp n e.wrote.output }; short = e.short }
