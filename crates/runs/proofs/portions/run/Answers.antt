@@ -1,6 +1,5 @@
-use Rattle.std.proofs.Common.{◌≡◌, ◌≤◌, length, ℕ, arith}
-use Rattle.files.specs.declared.replay.Replay.{Replay}
-use Rattle.files.specs.Replay.{longest_line, portion_room, Reached}
+use Rattle.std.proofs.Common.{◌≤◌, length, arith}
+use Rattle.files.specs.Replay.{longest_line, portion_room}
 use Rattle.files.specs.device.Calls.{Sound}
 use Rattle.files.proofs.PortionLaws.{fresh_sound, reached_on, reached_sound, reached_form}
 use Rattle.runs.proofs.portions.run.Goals as goal
@@ -9,7 +8,7 @@ pub one_turn-t-requires : goal.one_turn-t-requires
 one_turn-t-requires c =
     let sound : Sound c.fresh-state.result = rw c.fresh-state.ensures (fresh_sound c.args.form c.args.configuration) in
     let enough : portion_room c.fresh-state.result.form longest_line (length c.args.portion.now) ≤ length c.args.out.now =
-        rw c.fresh-state.ensures c.requires in
+    rw c.fresh-state.ensures c.requires in
     let (reached, read, room) = c.loop.invariant in
     (reached_sound _ _ sound reached, rw (reached_form _ _ reached, read, room) enough)
 
