@@ -25,7 +25,8 @@ def snake(name):
     if name[0].isupper():
         return name
     name = re.sub(r"([a-z0-9])([A-Z]+)(?=$|[^A-Za-z])", lambda m: m[1] + "_" + m[2].lower(), name)
-    name = re.sub(r"([a-z0-9])([A-Z])", lambda m: m[1] + "_" + m[2].lower(), name)
+    while re.search(r"[a-z0-9][A-Z]", name):
+        name = re.sub(r"([a-z0-9])([A-Z])", lambda m: m[1] + "_" + m[2].lower(), name)
     return re.sub(r"([a-z])(\d{2,})", r"\1_\2", name) if re.search(r"[a-z]\d{2,}$", name) else name
 
 

@@ -31,7 +31,8 @@ const ENOSPC: i32 = 28;
 
 const EPIPE: i32 = 32;
 
-const ENAMETOOLONG: i32 = 36;
+// A name that is longer than a path may be.
+pub(crate) const ENAMETOOLONG: i32 = 36;
 
 const ELOOP: i32 = 40;
 

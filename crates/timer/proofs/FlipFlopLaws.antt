@@ -14,7 +14,7 @@ use Rattle.timer.specs.Timer.{flip_flop_answer}
 use Rattle.timer.specs.declared.state.TimerState.{TimerState}
 use Rattle.timer.proofs.Accepted.{by_rule, accepted_gives_ruled, reset_makes_fresh, rule_leaves_valid}
 use Rattle.timer.proofs.Accepted.Rule.{flip_flop}
-use Rattle.timer.proofs.Counting.{on_in_aRow, counted_in_a_row, over_d_is_latest_on}
+use Rattle.timer.proofs.Counting.{on_in_a_row, counted_in_a_row, over_d_is_latest_on}
 use Rattle.timer.proofs.Runs.{outputs, timer_after, each_tick, latched_so_far, SetTrip, flip_flop_by, on_throughout}
 
 -- Without reset, the flip-flop is on exactly while it is latched.
@@ -59,7 +59,7 @@ flip_flop_reset_makes_off_and_fresh d state set trip fits valid = reset_makes_fr
 
 flip_flop_from_history : (d : ℕ) → leb d delay_limit ≡ true → (earlier : List SetTrip) (state : TimerState)
     → valid_timer state ≡ true
-    → state.count ≡ min (on_in_aRow (λ i. i.set) earlier) count_limit → state.latch ≡ latched_so_far d earlier
+    → state.count ≡ min (on_in_a_row (λ i. i.set) earlier) count_limit → state.latch ≡ latched_so_far d earlier
     → (ticks : List SetTrip) → outputs (flip_flop_by d) state ticks ≡ each_tick (latched_so_far d) earlier ticks
 unfolding outputs each_tick latched_so_far
 flip_flop_from_history d fits earlier state valid e latch [] = refl
@@ -76,5 +76,5 @@ flip_flop_from_history d fits earlier state valid e latch (inputs ∷ rest) =
 -- for the (d + 1)-th time in a row, or the trip input was on.
 pub flip_flop_on_exactly_when_latched_so_far : (d : ℕ) → leb d delay_limit ≡ true → (ticks : List SetTrip)
     → outputs (flip_flop_by d) fresh_timer ticks ≡ each_tick (latched_so_far d) [] ticks
-unfolding on_in_aRow latched_so_far
+unfolding on_in_a_row latched_so_far
 flip_flop_on_exactly_when_latched_so_far d fits ticks = flip_flop_from_history d fits [] fresh_timer refl refl refl ticks
