@@ -1,1 +1,2 @@
 pub mod Output
+pub mod File

@@ -1,4 +1,4 @@
-// The program's arguments.
+// The program's arguments. No contract can say what they are.
 ghost use Rattle.io.specs.Counts.{IsPrefixLen};
 
 use std::env::{Env, FillError};

@@ -9,7 +9,8 @@ const ENOENT: i32 = 2;
 
 const EIO: i32 = 5;
 
-const EBADF: i32 = 9;
+// No open file has this number.
+pub(crate) const EBADF: i32 = 9;
 
 const EAGAIN: i32 = 11;
 
