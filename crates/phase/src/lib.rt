@@ -2,6 +2,7 @@
 #![tactic(auto)]
 
 pub mod advance;
+pub mod checked;
 pub mod operation;
 pub mod pace;
 pub mod refusals;
@@ -9,5 +10,6 @@ pub mod settings;
 pub mod state;
 pub mod tick;
 
+pub use checked::CheckedSettings;
 pub use settings::Settings;
 pub use state::PhaseState;

@@ -3,8 +3,10 @@
 
 pub mod outputs;
 pub mod refusals;
+pub mod sample;
 pub mod state;
 pub mod step;
 pub mod tick;
 
+pub use sample::Sample;
 pub use state::RelayState;
