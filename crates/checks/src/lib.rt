@@ -9,7 +9,7 @@ ghost use Rattle.checks.specs.Range.{in_range};
 pub fn in_range(low: u32, high: u32, n: u32) -> bool
     ensures { result ≡ in_range low high n }
 {
-    (low <= n) & (n <= high)
+    (low..=high).contains(&n)
 }
 
 // `rest` where the check is passed, else the check's number. Of several checks the last is asked first, and its answer is the
