@@ -111,12 +111,6 @@ pub no_operate_time_by_ratio : (op m : ℕ) → in_range 101 2000 m ≡ false �
 unfolding operate_time
 no_operate_time_by_ratio op m e = rw (e, and-false (in_range 2 12 op))
 
-pub no_operate_time_to_100 : (op m : ℕ) → m ≤ 100 → operate_time op m ≡ 0
-no_operate_time_to_100 op m h = no_operate_time_by_ratio op m (below_range 101 2000 m (omega arith))
-
-pub no_operate_time_above_2000 : (op m : ℕ) → 2000 < m → operate_time op m ≡ 0
-no_operate_time_above_2000 op m h = no_operate_time_by_ratio op m (above_range 101 2000 m h)
-
 pub no_reset_time_by_op : (op m : ℕ) → in_range 6 12 op ≡ false → reset_time op m ≡ 0
 unfolding reset_time
 no_reset_time_by_op op m e = rw e
@@ -208,6 +202,7 @@ pub ruleset reset_laws = (found_kr, reset_time_by_kr, no_reset_time_from_100)
 pub product_at_most : (k x m : ℕ) → k ≤ 10000000 → x ≡ cond (in_range 101 2000 m) (X m) 0 → 101 ≤ m → m ≤ 2000 → k * x ≤ 10 ^ 17
 product_at_most k x m h e low high = mul-le-mul h (let x : x ≤ 10000000000 = rw (e, is_in_range 101 2000 m low high) (X_at_most m) in x)
 
+-- what the check of `inverse_part` goes by
 pub ruleset inverse_laws = (product_at_most, square_above, is_in_range)
 
 -- ---- how large they are

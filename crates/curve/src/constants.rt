@@ -44,7 +44,7 @@ impl Constants {
     }
 }
 
-// The row of an operation, which is its number in the document.
+// The row of an operation: the document's number, as in the settings and in the public calls (docs/SHEET.md names them).
 #[tactic(auto, unfolding(crate::specs::Constants::constants_of))]
 pub(crate) fn constants_of(operation: u32) -> Option<Constants>
     ensures { result ≡ cond (in_range 2 12 operation) (Some (constants_of operation)) None }

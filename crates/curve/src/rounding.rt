@@ -4,6 +4,7 @@ ghost use Rattle.curve.specs.Rounding.{rounded_up};
 
 // n divided by d, rounded down, by shift and subtract: for a processor that has no 64-bit divider. The divisor is lined up with the
 // number, so that a round is a bit of the quotient, from the highest down; there are 64 at most.
+#[tactic(auto, using(crate::proofs::LongDivision::division_laws))]
 fn shift_and_subtract(n: u64, d: u64) -> u64
     requires { 0 < d }
     ensures { result ≡ n / d }
