@@ -107,9 +107,15 @@ pub no_operate_time_by_op : (op m : ℕ) → in_range 2 12 op ≡ false → oper
 unfolding operate_time
 no_operate_time_by_op op m e = rw e
 
-pub no_operate_time_by_ratio : (op m : ℕ) → in_range 101 2000 m ≡ false → operate_time op m ≡ 0
+no_operate_time_by_ratio : (op m : ℕ) → in_range 101 2000 m ≡ false → operate_time op m ≡ 0
 unfolding operate_time
 no_operate_time_by_ratio op m e = rw (e, and-false (in_range 2 12 op))
+
+pub no_operate_time_to_100 : (op m : ℕ) → m ≤ 100 → operate_time op m ≡ 0
+no_operate_time_to_100 op m h = no_operate_time_by_ratio op m (below_range 101 2000 m (omega arith))
+
+pub no_operate_time_above_2000 : (op m : ℕ) → 2000 < m → operate_time op m ≡ 0
+no_operate_time_above_2000 op m h = no_operate_time_by_ratio op m (above_range 101 2000 m h)
 
 pub no_reset_time_by_op : (op m : ℕ) → in_range 6 12 op ≡ false → reset_time op m ≡ 0
 unfolding reset_time
@@ -168,17 +174,16 @@ found_row op row e =
     record { low = low; high = high; is = is; moderate = rw is (constants_moderate op low high) }
 
 pub operate_time_by_row : (op m : ℕ) (row : Constants) → Some row ≡ cond (in_range 2 12 op) (Some (constants_of op)) None
-    → in_range 101 2000 m ≡ true → operate_time op m ≡ row.c + inverse_part row.a row.k m
-operate_time_by_row op m row e within =
+    → 101 ≤ m → m ≤ 2000 → operate_time op m ≡ row.c + inverse_part row.a row.k m
+operate_time_by_row op m row e low high =
     let found = found_row op row e in
-    let (low, high) = in_range_law 101 2000 m within in
     rw found.is (operate_time_by_parts op m found.low found.high low high)
 
 pub no_operate_time_by_row : (op m : ℕ) → None ≡ cond (in_range 2 12 op) (Some (constants_of op)) None → operate_time op m ≡ 0
 no_operate_time_by_row op m e = no_operate_time_by_op op m (cond_none (in_range 2 12 op) (constants_of op) e)
 
 -- what the check of `operate_time` goes by
-pub ruleset operate_laws = (operate_time_by_row, no_operate_time_by_row, no_operate_time_by_ratio, in_range_law)
+pub ruleset operate_laws = (operate_time_by_row, no_operate_time_by_row, no_operate_time_to_100, no_operate_time_above_2000)
 
 -- and its kr
 pub found_kr : (op : ℕ) (found : Option Constants) (kr : Option ℕ) → found ≡ cond (in_range 2 12 op) (Some (constants_of op)) None

@@ -4,7 +4,6 @@ ghost use Rattle.curve.specs.Time.{inverse_part, operate_time, reset_part, reset
 
 use crate::constants::{Power, constants_of};
 use crate::rounding::round_up;
-use checks::in_range;
 use powers::x_of;
 
 // What a curve with the power a and the constant k adds to c at a ratio m.
@@ -23,17 +22,19 @@ fn inverse_part(a: Power, k: u64, m: u32) -> u64
     }
 }
 
-// The operate time T at multiplier 1; 0 where there is none.
+// The operate time T at multiplier 1; 0 where there is none. The arms are the ranges of the ratio that document 01 names.
 #[tactic(auto, using(crate::proofs::TimeLaws::operate_laws))]
 pub fn operate_time(operation: u32, ratio: u32) -> u64
     ensures { result ≡ operate_time operation ratio }
 {
-    if !in_range(101, 2000, ratio) {
-        return 0;
-    }
-    match constants_of(operation) {
-        Some(row) => row.c + inverse_part(row.a, row.k, ratio),
-        None => 0,
+    match ratio {
+        0..=99 => 0,
+        100 => 0,
+        101..=2000 => match constants_of(operation) {
+            Some(row) => row.c + inverse_part(row.a, row.k, ratio),
+            None => 0,
+        },
+        _ => 0,
     }
 }
 
@@ -53,11 +54,13 @@ fn reset_part(kr: u64, m: u32) -> u64
 pub fn reset_time(operation: u32, ratio: u32) -> u64
     ensures { result ≡ reset_time operation ratio }
 {
-    if 99 < ratio {
-        return 0;
-    }
-    match constants_of(operation).and_then(|row| row.kr) {
-        Some(kr) => reset_part(kr, ratio),
-        None => 0, // no curve, or one of the IEC
+    match ratio {
+        0..=99 => match constants_of(operation).and_then(|row| row.kr) {
+            Some(kr) => reset_part(kr, ratio),
+            None => 0, // no curve, or one of the IEC
+        },
+        100 => 0,
+        101..=2000 => 0,
+        _ => 0,
     }
 }
