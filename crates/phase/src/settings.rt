@@ -5,7 +5,8 @@ ghost use Rattle.phase.specs.Settings.{settings_checks, settings_refusal, trip_l
 
 use checks::{first_failed, in_range};
 
-// In the order of the document's table.
+// In the order of the document's table. Plain numbers, also where they say a kind or yes and no: C gives them, and the check refuses
+// those that are out of range.
 #[derive(Clone, Copy)]
 pub struct Settings {
     pub operation: u32,
@@ -19,6 +20,7 @@ pub struct Settings {
 
 impl Settings {
     // 0, or the number of the first setting that is outside its range.
+    #[tactic(auto, unfolding(crate::specs::Settings::settings_refusal))]
     pub fn check(self) -> u32
         ensures { result ≡ settings_refusal self }
     {

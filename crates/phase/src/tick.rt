@@ -1,11 +1,10 @@
 // One tick of one phase.
-ghost use Rattle.std.specs.Prelude.{true, ◌≡◌};
+ghost use Rattle.std.specs.Prelude.{◌≡◌};
 ghost use Rattle.checks.specs.Checks.{first_failed};
-ghost use Rattle.phase.specs.device.Ranges.{InRange};
-ghost use Rattle.phase.specs.State.{valid};
 ghost use Rattle.phase.specs.Tick.{due, start_by, trip_by, tick_of, phase_checks, tick_answer};
 
-use crate::advance::{advance, is_started};
+use crate::advance::{EqualTicks, is_started};
+use crate::checked::CheckedSettings;
 use crate::operation::{Kind, Timing, kind_of};
 use crate::pace::pace_of;
 use crate::refusals::INVALID_STATE;
@@ -13,6 +12,7 @@ use crate::settings::{Settings, settings_first_failed, trip_level};
 use crate::state::{PhaseState, is_valid};
 use checks::first_failed;
 
+// The refusal is a number beside the state, and no `Err`: a refused tick hands back the state that it was given.
 #[derive(Clone, Copy)]
 pub struct Ticked {
     pub refusal: u32,
@@ -28,7 +28,7 @@ fn is_due(timing: Timing, settings: Settings, after: PhaseState) -> bool
     match timing {
         Timing::Definite => settings.definite_delay <= after.run,
         Timing::Curve(_) => {
-            (trip_level(settings) <= after.sum) & (settings.minimum_delay <= after.run)
+            trip_level(settings) <= after.sum && settings.minimum_delay <= after.run
         }
     }
 }
@@ -37,10 +37,7 @@ fn is_due(timing: Timing, settings: Settings, after: PhaseState) -> bool
 fn start_by(kind: Kind, started: bool) -> bool
     ensures { result ≡ start_by kind started }
 {
-    match kind {
-        Kind::Off => false,
-        Kind::On(_) => started,
-    }
+    matches!(kind, Kind::On(_)) && started
 }
 
 // The trip output, with the state after the tick.
@@ -50,28 +47,29 @@ fn trip_by(kind: Kind, started: bool, settings: Settings, after: PhaseState) -> 
     match kind {
         Kind::Off => false,
         Kind::On(timing) => {
-            let allowed = started & (settings.start_only == 0);
-            allowed & is_due(timing, settings, after)
+            started && settings.start_only == 0 && is_due(timing, settings, after)
         }
     }
 }
 
-// A tick of settings and a state that were checked before.
-pub fn tick_ready(settings: Settings, state: PhaseState, g: u32) -> Ticked
-    requires { InRange settings × (valid settings state ≡ true) }
-    ensures { result ≡ tick_of settings state g }
+// A tick of settings that were checked before.
+pub fn tick_ready(settings: CheckedSettings, state: PhaseState, g: u32) -> Ticked
+    ensures { result ≡ tick_of settings.settings state g }
 {
-    let kind = kind_of(settings.operation);
-    let pace = pace_of(settings, g);
+    let kind = kind_of(settings.settings.operation);
     let started = is_started(settings, state, g);
-    let after = advance(kind, settings, pace, 1, state);
-    let start = start_by(kind, started);
-    let trip = trip_by(kind, started, settings, after);
+    let once = EqualTicks {
+        settings,
+        pace: pace_of(settings.settings, g),
+        state,
+        count: 1,
+    };
+    let after = once.advance(kind);
     Ticked {
         refusal: 0,
         state: after,
-        start,
-        trip,
+        start: start_by(kind, started),
+        trip: trip_by(kind, started, settings.settings, after),
     }
 }
 
@@ -98,5 +96,5 @@ pub fn tick(settings: Settings, state: PhaseState, g: u32) -> Ticked
             trip: false,
         };
     }
-    tick_ready(settings, state, g)
+    tick_ready(CheckedSettings { settings }, state, g)
 }
