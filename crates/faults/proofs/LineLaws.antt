@@ -52,17 +52,17 @@ module _ (ws s : List ℕ) where
     pub line_right : right_shape ws s ≡ true
     line_right = faultless_shape ws s n line_faultless
 
-    numbers_placed : ns ≡ placed (numbers_of s)
-    numbers_placed = placed_by (shape_of ws s) (numbers_of s) ns e
+    pub line_placed : ns ≡ placed (numbers_of s)
+    line_placed = placed_by (shape_of ws s) (numbers_of s) ns e
 
     pub line_room_law : length ns ≡ field_limit
-    line_room_law = ap length numbers_placed ∙ length-sets (replicate field_limit 0) 0 (numbers_of s)
+    line_room_law = ap length line_placed ∙ length-sets (replicate field_limit 0) 0 (numbers_of s)
 
     -- they stand at the front
     pub line_front : length ws ≤ field_limit → (length (numbers_of s) ≡ length ws) × (ns ≡ numbers_of s ++ drop (length (numbers_of s)) (replicate field_limit 0))
     line_front h =
         let m : length (numbers_of s) ≡ length ws = ap length (sym (scan_numbers ws s line_right)) ∙ scanned_length ws s in
-        (m, numbers_placed ∙ sets_front (replicate field_limit 0) (numbers_of s) (omega arith))
+        (m, line_placed ∙ sets_front (replicate field_limit 0) (numbers_of s) (omega arith))
 
     -- the number of field k, and that it fits its width
     pub line_number : (k : ℕ) → length ws ≤ field_limit → k < length ws → (get_or ns k 0 ≡ get_or (numbers_of s) k 0) × (get_or (numbers_of s) k 0 < 10 ^ get_or ws k 0)
