@@ -1,5 +1,5 @@
 // Whole numbers, decimals and numbers with an exponent.
-ghost use Rattle.std.specs.Prelude.{◌≡◌, true, ◌-◌, ◌≤◌, ◌<◌, min};
+ghost use Rattle.std.specs.Prelude.{◌≡◌, true, ◌≤◌, ◌<◌, min};
 ghost use Rattle.text.specs.Number.{value_of, digit_limit};
 ghost use Rattle.fields.specs.Number.{is_whole, is_channels, is_extreme, some_digits, is_exponent, is_unsigned_decimal, is_decimal};
 ghost use Rattle.fields.specs.Number.{is_of_value, sign_fits, is_decimal_of, is_number};
