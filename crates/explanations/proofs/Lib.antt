@@ -1,2 +1,3 @@
+pub mod PageLaws
 pub mod ExplanationLaws
 pub mod DecidedLaws
