@@ -1,2 +1,1 @@
 pub mod Explanation
-pub mod device

@@ -5,8 +5,8 @@ use native.Mathlib.Omega.{arith}
 use mathlib.Core.List.{List, [], ◌++◌}
 use mathlib.Core.Path.{refl, sym, ◌∙◌}
 use lib.ListN.{length-append}
-use Rattle.explanations.specs.declared.explanation.Page.{Page}
-use Rattle.explanations.specs.device.Page.{Put}
+use Rattle.text.specs.declared.page.Page.{Page}
+use Rattle.text.specs.device.Page.{Put}
 use Rattle.text.proofs.StoreLaws.{sets_append}
 
 pub put_then : {room more : ℕ} {a b c : Page} {xs ys : List ℕ} → Put room a b xs → Put more b c ys → Put (room + more) a c (xs ++ ys)

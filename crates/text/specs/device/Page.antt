@@ -1,7 +1,7 @@
 -- A device of the code: the buffer and the place in it, which go from call to call.
 use Rattle.std.specs.Prelude.{◌≡◌, List, ℕ, ◌+◌, ◌≤◌, length}
 use Rattle.std.proofs.lemmas.List.Edits.{sets}
-use Rattle.explanations.specs.declared.explanation.Page.{Page}
+use Rattle.text.specs.declared.page.Page.{Page}
 
 -- these bytes, at most `room`, were written at the place and nothing else, and the place after them is the next
 pub record Put (room : ℕ) (before after : Page) (bytes : List ℕ) : Type 0 where
