@@ -82,28 +82,8 @@ pub fn put_explanation(page: &mut Page, settings: Settings, relay: RelayState, s
     requires { page.old.at + explanation_room ≤ length page.old.out.now }
     ensures { Put explanation_room page.old page.new (explanation settings relay sample) }
 {
-    put_phase(
-        page,
-        b"L1: ",
-        settings,
-        relay.phases[0],
-        sample.l1,
-        sample.block,
-    );
-    put_phase(
-        page,
-        b"L2: ",
-        settings,
-        relay.phases[1],
-        sample.l2,
-        sample.block,
-    );
-    put_phase(
-        page,
-        b"L3: ",
-        settings,
-        relay.phases[2],
-        sample.l3,
-        sample.block,
-    );
+    let Sample { l1, l2, l3, block } = sample;
+    put_phase(page, b"L1: ", settings, relay.phases[0], l1, block);
+    put_phase(page, b"L2: ", settings, relay.phases[1], l2, block);
+    put_phase(page, b"L3: ", settings, relay.phases[2], l3, block);
 }
