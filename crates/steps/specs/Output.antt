@@ -35,7 +35,7 @@ record_row number x outputs = record { number = number; l1 = x.l1; l2 = x.l2; l3
 
 -- the explanation of a row, by the settings and the relay's state before its tick
 abbrev pub row_explained : Progress → Row → List ℕ
-row_explained p x = explanation p.settings p.relay x.l1 x.l2 x.l3 x.block
+row_explained p x = explanation p.settings p.relay (record { l1 = x.l1; l2 = x.l2; l3 = x.l3; block = x.block })
 
 -- that of the asked row alone
 abbrev pub explained_of : ℕ → Progress → Row → List ℕ
