@@ -1,7 +1,5 @@
 // One tick of the three phases.
-ghost use Rattle.std.specs.Prelude.{true, ◌≡◌};
-ghost use Rattle.phase.specs.device.Ranges.{InRange};
-ghost use Rattle.relay.specs.State.{valid_relay};
+ghost use Rattle.std.specs.Prelude.{◌≡◌};
 ghost use Rattle.relay.specs.Tick.{relay_tick_of, relay_tick_answer};
 
 use crate::outputs::output_byte;
@@ -9,8 +7,8 @@ use crate::refusals::WRONG_BLOCK;
 use crate::sample::Sample;
 use crate::state::{RelayState, relay_first_failed};
 use checks::first_failed;
-use phase::Settings;
 use phase::tick::tick_ready;
+use phase::{CheckedSettings, Settings};
 
 // No Result: the documents tell a refusal by its number, 0 for none, and a refused tick hands back its state, outputs off.
 #[derive(Clone, Copy)]
@@ -20,10 +18,9 @@ pub struct RelayTicked {
     pub outputs: u8,
 }
 
-// A tick of settings and a state that were checked before, on its own: no plan is made for it.
-fn tick_three(settings: Settings, relay: RelayState, sample: Sample) -> RelayTicked
-    requires { InRange settings × (valid_relay settings relay ≡ true) }
-    ensures { result ≡ relay_tick_of settings relay sample.l1 sample.l2 sample.l3 sample.block }
+// A tick of settings that were checked before, on its own: no plan is made for it.
+fn tick_three(settings: CheckedSettings, relay: RelayState, sample: Sample) -> RelayTicked
+    ensures { result ≡ relay_tick_of settings.settings relay sample.l1 sample.l2 sample.l3 sample.block }
 {
     let a = tick_ready(settings, relay.phases[0], sample.l1);
     let b = tick_ready(settings, relay.phases[1], sample.l2);
@@ -55,5 +52,5 @@ pub fn tick(settings: Settings, state: RelayState, sample: Sample) -> RelayTicke
             outputs: 0,
         };
     }
-    tick_three(settings, state, sample)
+    tick_three(CheckedSettings { settings }, state, sample)
 }
