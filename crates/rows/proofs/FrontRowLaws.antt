@@ -11,6 +11,7 @@ use lib.Dec.{leb, eqb}
 use lib.ListN.{length, get_or, drop, length-append}
 use lib.Seq.{drop-cons, drop-drop}
 use borrow.Author.Tests.{leb-true, le-leb, eqb-true}
+use Rattle.std.specs.Prelude.{Ok}
 use Rattle.text.specs.declared.lines.Closer.TheVariants.{CrLf}
 use Rattle.text.specs.Number.{leading}
 use Rattle.text.specs.Line.{comma, cr, lf, fits_in, right_shape, values_of, numbers_of, written}
@@ -21,7 +22,6 @@ use Rattle.text.proofs.DigitLaws.{leading_length}
 use Rattle.text.proofs.ShapeLaws.{close_of, closing, closing_written, lead_split, lead_digits, written_right, written_numbers, shape_least, shape_most}
 use Rattle.text.proofs.LinesLaws.{line_cut}
 use Rattle.faults.proofs.RightLaws.{right_faultless}
-use Rattle.rows.specs.declared.row.RowRead.TheVariants.{Accepted}
 use Rattle.rows.specs.declared.front.Field.{Field}
 use Rattle.rows.specs.declared.front.Front.{Front}
 use Rattle.rows.specs.Row.{row_of, block_refusal, row_answer}
@@ -145,7 +145,7 @@ module _ (p : List ℕ) where
 
 -- ---- the row that the reader of rows accepts
 
-row_right : (line : List ℕ) (last : ℕ) (ns : List ℕ) → right_shape row_widths line ≡ true → numbers_of line ≡ ns → get_or ns 0 0 ≡ last + 1 → get_or ns 5 0 ≤ 1 → row_answer line last ≡ Accepted (row_of ns)
+row_right : (line : List ℕ) (last : ℕ) (ns : List ℕ) → right_shape row_widths line ≡ true → numbers_of line ≡ ns → get_or ns 0 0 ≡ last + 1 → get_or ns 5 0 ≤ 1 → row_answer line last ≡ Ok (row_of ns)
 unfolding row_answer
 row_right line last ns right e next low =
     let told = numbered_rest row_widths block_refusal line last (right_faultless row_widths line (omega arith) right) (rw e next) in
@@ -157,7 +157,7 @@ pub record AtFront (p : List ℕ) (at last : ℕ) (x : Front) : Type 0 where
   pub line : List ℕ
   pub here : drop at p ≡ line ++ drop x.next p
   -- the reader of rows, on that line
-  pub accepted : row_answer line last ≡ Accepted x.row
+  pub accepted : row_answer line last ≡ Ok x.row
   -- the cutter of the stream, whatever comes after it
   pub cut : (rest : List ℕ) → cutting CrLf front_room [] (line ++ rest) ≡ one_more line (cutting CrLf front_room [] rest)
   pub place : x.next ≡ at + length line

@@ -6,6 +6,7 @@ ghost use Rattle.rows.specs.device.Front.{front_room, field_from, fields_from, n
 
 use crate::row::Row;
 use faults::reader::is_digit;
+use relay::Sample;
 
 // One byte more than the longest row has: where so many stand, none that is read is past the end, whatever they are.
 const FRONT_ROOM: usize = 46;
@@ -68,10 +69,12 @@ fn read_fields(s: &[u8], at: usize) -> Front
         right: closed & (s[end] == b'\n') & (block.value <= 1),
         row: Row {
             number: number.value as u32,
-            l1: l1.value as u32,
-            l2: l2.value as u32,
-            l3: l3.value as u32,
-            block: block.value as u8,
+            sample: Sample {
+                l1: l1.value as u32,
+                l2: l2.value as u32,
+                l3: l3.value as u32,
+                block: block.value as u8,
+            },
         },
         next: end + 1,
     }
@@ -85,10 +88,12 @@ fn no_front(at: usize) -> Front
         right: false,
         row: Row {
             number: 0,
-            l1: 0,
-            l2: 0,
-            l3: 0,
-            block: 0,
+            sample: Sample {
+                l1: 0,
+                l2: 0,
+                l3: 0,
+                block: 0,
+            },
         },
         next: at,
     }

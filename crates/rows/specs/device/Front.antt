@@ -29,7 +29,10 @@ fields_of s number stamp l1 l2 l3 block = record {
   right =
       number.closed && stamp.closed && l1.closed && l2.closed && l3.closed && block.closed && eqb (get_or s block.next 0) lf
       && leb block.value 1;
-  row = record { number = number.value; l1 = l1.value; l2 = l2.value; l3 = l3.value; block = block.value };
+  row = record {
+    number = number.value;
+    sample = record { l1 = l1.value; l2 = l2.value; l3 = l3.value; block = block.value };
+  };
   next = block.next + 1;
 }
 
@@ -46,7 +49,7 @@ fields_from s at =
 
 -- any other row, or too few bytes: another reader tells
 abbrev pub no_front : ℕ → Front
-no_front at = record { right = false; row = record { number = 0; l1 = 0; l2 = 0; l3 = 0; block = 0 }; next = at }
+no_front at = record { right = false; row = record { number = 0; sample = record { l1 = 0; l2 = 0; l3 = 0; block = 0 } }; next = at }
 
 -- by its number, after a row of number `last`
 abbrev pub next_front : ℕ → ℕ → Front → Front
