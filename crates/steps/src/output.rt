@@ -13,7 +13,6 @@ ghost use Rattle.text.specs.device.Page.{Put};
 use crate::progress::Progress;
 use explanations::put_explanation;
 use records::{RecordRow, write_row};
-use relay::Sample;
 use relay::tick::RelayTicked;
 use rows::Row;
 use text::page::Page;
@@ -73,9 +72,9 @@ fn note_record(page: &mut Page, done: u32, x: Row, outputs: u8)
 {
     let row = RecordRow {
         number: done + 1,
-        l1: x.l1,
-        l2: x.l2,
-        l3: x.l3,
+        l1: x.sample.l1,
+        l2: x.sample.l2,
+        l3: x.sample.l3,
         outputs,
     };
     page.at = write_row(page.out, page.at, row).place;
@@ -86,13 +85,7 @@ fn note_reasons(page: &mut Page, p: Progress, x: Row)
     requires { page.old.at + explanation_room ≤ length page.old.out.now }
     ensures { Put explanation_room page.old page.new (row_explained p x) }
 {
-    let sample = Sample {
-        l1: x.l1,
-        l2: x.l2,
-        l3: x.l3,
-        block: x.block,
-    };
-    put_explanation(page, p.settings, p.relay, sample);
+    put_explanation(page, p.settings, p.relay, x.sample);
 }
 
 // The explanation of the asked row, and nothing for any other.

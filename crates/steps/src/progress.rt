@@ -11,10 +11,10 @@ ghost use Rattle.text.specs.device.Page.{Put};
 use crate::configuration::{Configuration, after_settings, last_refusal};
 use crate::output::{Form, note_row, put_end};
 use phase::Settings;
+use relay::RelayState;
 use relay::tick::{RelayTicked, tick};
-use relay::{RelayState, Sample};
 use rows::refusals::NO_DIGIT;
-use rows::{Hint, Refusal, Row, RowRead, SettingsRead, read_row, read_settings_line, refuse};
+use rows::{Place, Refusal, Row, read_row, read_settings_line, refuse};
 use text::page::Page;
 
 // What the next line is to be; after a refusal, what was refused.
@@ -73,12 +73,12 @@ fn on_settings_line(p: Progress, line: &[u8]) -> Progress
     ensures { result ≡ opened p (settings_line_answer line.now) }
 {
     match read_settings_line(line) {
-        SettingsRead::Accepted(settings) => Progress {
+        Ok(settings) => Progress {
             stage: after_settings(p.configuration),
             settings,
             ..p
         },
-        SettingsRead::Refused(refusal) => stop(p, refusal),
+        Err(refusal) => stop(p, refusal),
     }
 }
 
@@ -112,13 +112,7 @@ fn note_tick(form: Form, page: &mut Page, p: Progress, x: Row, t: RelayTicked)
 fn tick_row(p: Progress, x: Row) -> RelayTicked
     ensures { result ≡ ticked p x }
 {
-    let sample = Sample {
-        l1: x.l1,
-        l2: x.l2,
-        l3: x.l3,
-        block: x.block,
-    };
-    tick(p.settings, p.relay, sample)
+    tick(p.settings, p.relay, x.sample)
 }
 
 // A row. What it writes is at most so many times as long as the row itself.
@@ -128,12 +122,12 @@ fn on_row(form: Form, p: Progress, line: &[u8], page: &mut Page) -> Progress
     ensures wrote { Put (spread form * length line.now) page.old page.new (wrote_row form p line.now) }
 {
     match read_row(line, p.done) {
-        RowRead::Accepted(x) => {
+        Ok(x) => {
             let t = tick_row(p, x);
             note_tick(form, page, p, x, t);
             after_tick(p, t)
         }
-        RowRead::Refused(refusal) => stop(p, refusal),
+        Err(refusal) => stop(p, refusal),
     }
 }
 
@@ -156,8 +150,8 @@ fn after_row(p: Progress, line: &[u8]) -> Progress
     ensures { result ≡ after_row p line.now }
 {
     match read_row(line, p.done) {
-        RowRead::Accepted(x) => after_tick(p, tick_row(p, x)),
-        RowRead::Refused(refusal) => stop(p, refusal),
+        Ok(x) => after_tick(p, tick_row(p, x)),
+        Err(refusal) => stop(p, refusal),
     }
 }
 
@@ -188,9 +182,11 @@ fn stage_refusal(stage: Stage) -> Refusal
     match stage {
         Stage::Opening => Refusal {
             number: NO_DIGIT,
-            offset: 0,
-            field: 1,
-            hint: Hint::None,
+            place: Some(Place {
+                offset: 0,
+                field: 1,
+            }),
+            hint: None,
         },
         Stage::Running => refuse(0),
         Stage::Stopped(refusal) => refusal,

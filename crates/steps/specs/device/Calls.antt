@@ -8,7 +8,7 @@ use Rattle.steps.specs.Output.{note_room}
 -- the row after `done` rows can be noted: none of its numbers is too large, and the output has room
 pub record Notable (form : Form) (done : ℕ) (x : Row) (at room : ℕ) : Type 0 where
   pub number : done < last_row
-  pub first : x.l1 ≤ largest_current
-  pub second : x.l2 ≤ largest_current
-  pub third : x.l3 ≤ largest_current
+  pub first : x.sample.l1 ≤ largest_current
+  pub second : x.sample.l2 ≤ largest_current
+  pub third : x.sample.l3 ≤ largest_current
   pub free : at + note_room form ≤ room

@@ -2,7 +2,6 @@
 -- Assumes nothing.
 use mathlib.Core.Path.{refl}
 use Rattle.steps.proofs.OutputLaws.{record_put}
-
 use Rattle.steps.proofs.output.note_record.Goals as goal
 
 pub returns : goal.returns

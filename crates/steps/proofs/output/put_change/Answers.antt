@@ -4,7 +4,6 @@ use native.Mathlib.Omega.{arith}
 use Rattle.text.proofs.PageLaws.{put_within}
 use Rattle.steps.specs.Output.{change_room}
 use Rattle.steps.proofs.OutputLaws.{change_short}
-
 use Rattle.steps.proofs.output.put_change.Goals as goal
 
 pub put_pair-requires : goal.put_pair-requires

@@ -4,7 +4,6 @@ use native.Mathlib.Omega.{arith}
 use Rattle.text.proofs.PageLaws.{put_then, put_within}
 use Rattle.steps.specs.Output.{end_room}
 use Rattle.steps.proofs.OutputLaws.{end_short}
-
 use Rattle.steps.proofs.output.put_end.Goals as goal
 
 pub put_pair-requires : goal.put_pair-requires

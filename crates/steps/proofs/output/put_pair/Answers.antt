@@ -3,7 +3,6 @@
 use native.Mathlib.Omega.{arith}
 use Rattle.text.proofs.PageLaws.{put_then, put_within}
 use Rattle.steps.proofs.OutputLaws.{pair_length}
-
 use Rattle.steps.proofs.output.put_pair.Goals as goal
 
 pub returns : goal.returns
