@@ -1,4 +1,5 @@
 pub mod StoreLaws
+pub mod PageLaws
 pub mod ByteLaws
 pub mod DigitLaws
 pub mod DecimalLaws
@@ -13,4 +14,3 @@ pub mod CuttingLaws
 pub mod PieceLaws
 pub mod CutTurns
 pub mod KeptLaws
-pub mod WordsLaws
