@@ -52,7 +52,7 @@ pub fn write_out(rt: HostRuntime, bytes: &[u8]) -> usize
 {
     let written = write_all(&mut rt.stdout(), bytes);
     if let Err(error) = written.ended {
-        say_failure(rt, b"writing ", b"standard output", error);
+        say_failure(rt, "writing", b"standard output", error);
     }
     written.count
 }
