@@ -1,5 +1,5 @@
 -- `program::arguments::number_argument` meets its contract: so many digits hold no larger number.
-use Rattle.std.proofs.Common.{ℕ, List, length, ◌≤◌, ◌<◌, ◌^◌, Option, Some, None, IfSome, length-take, arith}
+use Rattle.std.proofs.Common.{rules, ℕ, List, length, take, ◌≤◌, ◌<◌, ◌^◌, Option, Some, None, IfSome, length-take, arith}
 use Rattle.std.proofs.lemmas.Str.Parse.{digits_value_short, numerals_by_value, tells_digits}
 use Rattle.program.specs.Arguments.{NumberRead}
 use Rattle.program.proofs.arguments.number_argument.Goals as goal
@@ -9,4 +9,8 @@ short text k (Some n) fits (number, is) = rw is (digits_value_short (numerals_by
 short text k None fits none = tt
 
 pub returns : goal.returns
-returns c = short _ _ _ (simp length-take (omega arith)) c.number_of.ensures
+returns c =
+    let buf = c.argument.new.buf in
+    let bound : IfSome c.number_of.result (λ n. n < 10 ^ length buf) =
+        short (take c.in_ok-count.count buf) (length buf) c.number_of.result (simp length-take (omega arith)) c.number_of.ensures in
+    search rules
