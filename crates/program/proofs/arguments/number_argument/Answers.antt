@@ -12,5 +12,5 @@ pub returns : goal.returns
 returns c =
     let buf = c.argument.new.buf in
     let bound : IfSome c.number_of.result (λ n. n < 10 ^ length buf) =
-        short (take c.in_ok-count.count buf) (length buf) c.number_of.result (simp length-take (omega arith)) c.number_of.ensures in
+    short (take c.in_ok-count.count buf) (length buf) c.number_of.result (simp length-take (omega arith)) c.number_of.ensures in
     search rules
