@@ -1,12 +1,13 @@
 -- The first of n equal ticks with the phase trip on: in closed form, and what it means.
 -- Assumes nothing.
-use Prim.Native.Nat.{ℕ, suc, ◌+◌, ◌-◌, ◌*◌, ◌≤◌, ◌<◌, min, max}
-use native.Mathlib.Nat.{suc-mul, div-lt_iff_lt-mul, mul-zero}
+use Prim.Native.Nat.{ℕ, suc, ◌+◌, ◌-◌, ◌*◌, ◌/◌, ◌%◌, ◌≤◌, ◌<◌, min, max}
+use native.Mathlib.Nat.{suc-mul, div-lt_iff_lt-mul, le-div_iff_mul-le, mul-zero}
 use native.Mathlib.Omega.{arith}
 use mathlib.Core.Bool.{Bool, true, false, cond, ◌&&◌}
 use mathlib.Core.Path.{◌≡◌, refl, ◌∙◌}
 use borrow.Author.Tests.{leb-true, leb-false, le-leb, lt-leb, ltb-true, ltb-false}
 use lib.Dec.{leb, ltb, eqb}
+use Rattle.std.proofs.lemmas.Grind.{div_ceil_times}
 use Rattle.checks.proofs.Cases.{same_test}
 use Rattle.checks.proofs.Tests.{both_true, leb_iff}
 use Rattle.curve.specs.Ratio.{ratio_of}
@@ -40,6 +41,15 @@ both_iff a b c d m k f g h =
     (λ t. let e = leb-true m k t in rw (le-leb a b (g e), le-leb c d (h e)))
 
 -- ---- from which tick on a sum is full
+
+-- rounded up: one more where something is left over, as the sum with the divisor less 1 has it
+pub rounded_up_is : (n d : ℕ) → 0 < d → n / d + min 1 (n % d) ≡ (n + (d - 1)) / d
+rounded_up_is n d pos =
+    let x = n / d + min 1 (n % d) in
+    let (high, low) = div_ceil_times n d pos in
+    let least : x ≤ (n + (d - 1)) / d = (le-div_iff_mul-le pos).1 (omega (arith, low)) in
+    let most : (n + (d - 1)) / d < suc x = (div-lt_iff_lt-mul pos).1 (rw suc-mul (omega (arith, high))) in
+    omega (arith, least, most)
 
 turns_enough : (level sum gain k : ℕ) → 0 < gain → turns level sum gain ≤ k → level ≤ sum + k * gain
 turns_enough level sum gain k pos h =

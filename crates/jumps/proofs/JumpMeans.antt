@@ -6,8 +6,7 @@ use mathlib.Core.Bool.{Bool, true, false, cond}
 use mathlib.Core.Path.{◌≡◌, refl, ◌∙◌, ap}
 use lib.Dec.{eqb}
 use Rattle.jumps.specs.declared.jump.Jumped.{Jumped}
-use Rattle.jumps.specs.declared.jump.TripTick.{TripTick}
-use Rattle.jumps.specs.declared.jump.TripTick.TheVariants.{At, None}
+use Rattle.std.specs.Prelude.{Option, Some, None}
 use Rattle.phase.specs.declared.settings.Settings.{Settings}
 use Rattle.phase.specs.declared.state.PhaseState.{PhaseState}
 use Rattle.jumps.specs.Jump.{first_trip, trip_tick, trip_number, jump_refusal, refused_jump, jump_answer, jump_number}
@@ -17,10 +16,10 @@ use Rattle.jumps.specs.device.FirstTrip.{first_trip_by}
 use Rattle.jumps.proofs.JumpAccepted.{jump_accepted, jump_passed}
 use Rattle.jumps.proofs.FirstTrips.{first_trip_closed}
 
-abbrev pub trip_of : Jumped → TripTick
+abbrev pub trip_of : Jumped → Option ℕ
 trip_of jumped = jumped.trip
 
-pub named : (n t : ℕ) → trip_tick n ≡ At t → (n ≡ t) × (0 < t)
+pub named : (n t : ℕ) → trip_tick n ≡ Some t → (n ≡ t) × (0 < t)
 named zero t e = absurd (let z : ◌≡◌ {A = ℕ} 0 1 = cc in omega arith)
 named (suc n) t e = let s : suc n ≡ t = cc in (s, omega arith)
 
@@ -28,7 +27,7 @@ pub unnamed : (n : ℕ) → trip_tick n ≡ None → n ≡ 0
 unnamed zero e = refl
 unnamed (suc n) e = cc
 
-pub above_none : (n : ℕ) → (n ≡ 0 → ⊥) → At n ≡ trip_tick n
+pub above_none : (n : ℕ) → (n ≡ 0 → ⊥) → Some n ≡ trip_tick n
 above_none zero h = absurd (h refl)
 above_none (suc n) h = refl
 

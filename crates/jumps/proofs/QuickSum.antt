@@ -5,7 +5,7 @@ use native.Mathlib.Omega.{arith}
 use mathlib.Core.Bool.{Bool, false}
 use mathlib.Core.Path.{◌≡◌, sym, ◌∙◌, ap}
 use Rattle.jumps.specs.declared.jump.Jumped.{Jumped}
-use Rattle.jumps.specs.declared.jump.TripTick.TheVariants.{At, None}
+use Rattle.std.specs.Prelude.{Some, None}
 use Rattle.phase.specs.declared.settings.Settings.{Settings}
 use Rattle.phase.specs.declared.state.PhaseState.{PhaseState}
 use Rattle.phase.specs.declared.tick.Ticked.{Ticked}
@@ -36,8 +36,8 @@ call_trips settings g state (suc k) = (tick_answer settings (calls_after setting
 pub record QuickSum (settings : Settings) (state : PhaseState) (g count : ℕ) : Type 0 where
   pub accepted : (n : ℕ) → tick_refusal settings (calls_after settings g n state) ≡ 0
   pub ends : (jump_answer settings state g count).state ≡ calls_after settings g count state
-  pub names : (t : ℕ) → (jump_answer settings state g count).trip ≡ At t → FirstAt (call_trips settings g state) count t
-  pub first : (t : ℕ) → FirstAt (call_trips settings g state) count t → (jump_answer settings state g count).trip ≡ At t
+  pub names : (t : ℕ) → (jump_answer settings state g count).trip ≡ Some t → FirstAt (call_trips settings g state) count t
+  pub first : (t : ℕ) → FirstAt (call_trips settings g state) count t → (jump_answer settings state g count).trip ≡ Some t
   pub none : (jump_answer settings state g count).trip ≡ None → Never (call_trips settings g state) count
   pub never : Never (call_trips settings g state) count → (jump_answer settings state g count).trip ≡ None
 

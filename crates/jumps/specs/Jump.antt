@@ -1,9 +1,7 @@
 -- The jump over many equal ticks: the ticks walked one by one.
-use Rattle.std.specs.Prelude.{ℕ, zero, suc, Bool, cond, List, [], ◌∷◌, ◌++◌, leb, eqb}
+use Rattle.std.specs.Prelude.{ℕ, zero, suc, Option, Some, None, Bool, cond, List, [], ◌∷◌, ◌++◌, leb, eqb}
 use Rattle.checks.specs.Checks.{Check, check, lowest}
 use Rattle.jumps.specs.declared.jump.Jumped.{Jumped}
-use Rattle.jumps.specs.declared.jump.TripTick.{TripTick}
-use Rattle.jumps.specs.declared.jump.TripTick.TheVariants.{At, None}
 use Rattle.phase.specs.declared.settings.Settings.{Settings}
 use Rattle.phase.specs.declared.state.PhaseState.{PhaseState}
 use Rattle.jumps.specs.Refusals.{jump_too_long}
@@ -25,13 +23,13 @@ unfoldable pub first_trip : Settings → ℕ → ℕ → PhaseState → ℕ
 first_trip settings g n state = first_of (trip_at settings state (always g)) n
 
 -- the answer's two cases: "trips at" a tick, or "has none"
-abbrev pub trip_tick : ℕ → TripTick
+abbrev pub trip_tick : ℕ → Option ℕ
 trip_tick zero = None
-trip_tick (suc k) = At (suc k)
+trip_tick (suc k) = Some (suc k)
 
 -- the number of each case: tick k is k, none is 0
-unfoldable pub trip_number : TripTick → ℕ
-trip_number (At k) = k
+unfoldable pub trip_number : Option ℕ → ℕ
+trip_number (Some k) = k
 trip_number None = 0
 
 -- "a jump is over 3,600,000 ticks"

@@ -1,64 +1,44 @@
 // Many equal ticks of one phase at once.
-ghost use Rattle.std.specs.Prelude.{◌≡◌, ◌≤◌};
-ghost use Rattle.jumps.specs.Jump.{jump_limit, jump_of, jump_answer, jump_number, trip_tick, trip_number};
-ghost use Rattle.phase.specs.device.Pace.{Ready};
+ghost use Rattle.std.specs.Prelude.{◌≡◌};
+ghost use Rattle.jumps.specs.Jump.{jump_of, jump_answer, jump_number, trip_number};
 
 use crate::first_trip::first_trip;
 use crate::refusals::JUMP_TOO_LONG;
 use checks::first_failed;
-use phase::advance::advance;
 use phase::operation::kind_of;
-use phase::pace::{Pace, pace_of};
+use phase::pace::pace_of;
 use phase::tick::phase_first_failed;
-use phase::{PhaseState, Settings};
+use phase::{CheckedSettings, EqualTicks, PhaseState, Settings};
 
-// The first tick with the phase trip on, counted from 1, or none.
-#[derive(Clone, Copy)]
-pub enum TripTick {
-    At(u32),
-    None,
-}
-
+// The refusal is a number beside the state, and no `Err`: a refused jump hands back the state that it was given.
+// `trip` is the first tick with the phase trip on, counted from 1.
 #[derive(Clone, Copy)]
 pub struct Jumped {
     pub refusal: u32,
     pub state: PhaseState,
-    pub trip: TripTick,
+    pub trip: Option<u32>,
 }
 
 impl Jumped {
     pub const JUMP_LIMIT: u32 = 3600000;
 }
 
-fn trip_tick(k: u32) -> TripTick
-    ensures { result ≡ trip_tick k }
+// A jump of settings that were checked before.
+fn jump_ready(ticks: EqualTicks) -> Jumped
+    ensures { result ≡ jump_of ticks.settings.settings ticks.state ticks.pace.sample ticks.count }
 {
-    if k == 0 {
-        TripTick::None
-    } else {
-        TripTick::At(k)
-    }
-}
-
-// A jump of settings and a state that were checked before.
-fn jump_ready(settings: Settings, pace: Pace, state: PhaseState, count: u32) -> Jumped
-    requires { Ready settings pace state × (count ≤ jump_limit) }
-    ensures { result ≡ jump_of settings state pace.sample count }
-{
-    if count == 0 {
+    if ticks.count == 0 {
         return Jumped {
             refusal: 0,
-            state,
-            trip: TripTick::None,
+            state: ticks.state,
+            trip: None,
         };
     }
-    let kind = kind_of(settings.operation);
-    let after = advance(kind, settings, pace, count, state);
-    let trip = trip_tick(first_trip(kind, settings, pace, count, state));
+    let kind = kind_of(ticks.settings.settings.operation);
     Jumped {
         refusal: 0,
-        state: after,
-        trip,
+        state: ticks.advance(kind),
+        trip: first_trip(ticks),
     }
 }
 
@@ -77,9 +57,14 @@ pub fn jump(settings: Settings, state: PhaseState, g: u32, count: u32) -> Jumped
         return Jumped {
             refusal,
             state,
-            trip: TripTick::None,
+            trip: None,
         };
     }
-    let pace = pace_of(settings, g);
-    jump_ready(settings, pace, state, count)
+    let ticks = EqualTicks {
+        settings: CheckedSettings { settings },
+        pace: pace_of(settings, g),
+        state,
+        count,
+    };
+    jump_ready(ticks)
 }

@@ -1,10 +1,9 @@
--- How large the numbers of a tick are.
+-- What a pace is of its settings and its sample, and how large the numbers of a tick are.
 -- Assumes nothing.
 use Prim.Native.Nat.{ℕ, ◌≤◌, ◌<◌}
 use native.Mathlib.Omega.{arith}
-use mathlib.Core.Path.{◌≡◌}
+use mathlib.Core.Path.{◌≡◌, ap}
 use Rattle.curve.specs.Ratio.{ratio_of}
-use Rattle.curve.proofs.GainLaws.{gain_at_most, loss_at_most}
 use Rattle.curve.proofs.LeastGainLaws.{gain_above_0}
 use Rattle.curve.proofs.RatioLaws.{ratio_at_most}
 use Rattle.phase.specs.declared.operation.Kind.TheVariants.{On}
@@ -12,19 +11,21 @@ use Rattle.phase.specs.declared.operation.ResetRule.{ResetRule}
 use Rattle.phase.specs.declared.operation.Timing.TheVariants.{Curve}
 use Rattle.phase.specs.declared.pace.Pace.{Pace}
 use Rattle.phase.specs.declared.settings.Settings.{Settings}
-use Rattle.phase.specs.declared.state.PhaseState.{PhaseState}
-use Rattle.phase.specs.device.Pace.{Ready}
+use Rattle.phase.specs.device.Pace.{pace_of}
 use Rattle.phase.specs.Operation.{kind_of}
 use Rattle.phase.specs.Settings.{trip_level}
-use Rattle.phase.specs.Tick.{gain_at}
+use Rattle.phase.specs.Tick.{gain_at, loss_at}
 use Rattle.phase.specs.device.Ranges.{InRange}
 use Rattle.phase.proofs.TripLaws.{curve_is_from_2}
 
-pub gain_small : (settings : Settings) (pace : Pace) (state : PhaseState) → Ready settings pace state → pace.gain ≤ 1000000000000
-gain_small settings pace state r = rw r.gain (gain_at_most _ _)
+module _ (settings : Settings) (pace : Pace) (own : pace ≡ pace_of settings pace.sample) where
+  pub own_gain : pace.gain ≡ gain_at settings pace.sample
+  unfolding pace_of
+  own_gain = ap (λ (p : Pace). p.gain) own
 
-pub loss_small : (settings : Settings) (pace : Pace) (state : PhaseState) → Ready settings pace state → pace.loss ≤ 1000000000000
-loss_small settings pace state r = rw r.loss (loss_at_most _ _)
+  pub own_loss : pace.loss ≡ loss_at settings pace.sample
+  unfolding pace_of
+  own_loss = ap (λ (p : Pace). p.loss) own
 
 pub level_small : (settings : Settings) → InRange settings → trip_level settings ≤ 1500000000000
 level_small settings range = omega arith

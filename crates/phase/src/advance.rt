@@ -1,157 +1,116 @@
-// The state after n equal ticks at once, with no loop. A single tick is n = 1.
-ghost use Rattle.std.specs.Prelude.{◌≡◌, ◌+◌, ◌*◌, ◌-◌, ◌≤◌, min};
-ghost use Rattle.phase.specs.device.Closed.{most_ticks, count_after, sum_up_after, sum_down_after, advance_by};
-ghost use Rattle.phase.specs.device.Pace.{Ready};
-ghost use Rattle.phase.specs.device.Ranges.{InRange};
-ghost use Rattle.phase.specs.State.{run_limit};
+// The state after some equal ticks at once, with no loop. A single tick is a count of 1.
+ghost use Rattle.std.specs.Prelude.{◌≡◌};
+ghost use Rattle.phase.specs.device.Closed.{count_after, sum_up_after, sum_down_after, advance_by};
+ghost use Rattle.phase.specs.device.Pace.{pace_of};
 ghost use Rattle.phase.specs.Tick.{run_down, started};
 
+use crate::checked::CheckedSettings;
 use crate::operation::{Kind, ResetRule, Timing};
 use crate::pace::Pace;
-use crate::settings::{Settings, trip_level};
+use crate::settings::trip_level;
 use crate::state::PhaseState;
 
 // Whether a tick with this sample is started: a phase that was started on its last tick drops out below 95 %, one that was not starts
 // above 100 %.
-pub fn is_started(settings: Settings, state: PhaseState, sample: u32) -> bool
-    requires { InRange settings }
-    ensures { result ≡ started settings state sample }
+pub fn is_started(settings: CheckedSettings, state: PhaseState, sample: u32) -> bool
+    ensures { result ≡ started settings.settings state sample }
 {
+    let start_current = settings.settings.start_current;
     if state.started {
-        95 * settings.start_current <= sample
+        95 * start_current <= sample
     } else {
-        100 * settings.start_current < sample
+        100 * start_current < sample
     }
 }
 
-// A count that goes up by 1 at each of n ticks, and stops at its limit.
-fn count_after(n: u32, count: u32) -> u32
-    requires { (n ≤ most_ticks) × (count ≤ run_limit) }
-    ensures { result ≡ count_after n count }
-{
-    let total = count + n;
-    if total < PhaseState::RUN_LIMIT {
-        total
-    } else {
-        PhaseState::RUN_LIMIT
+// So many ticks with the sample of the pace, from the state on.
+#[derive(Clone, Copy)]
+pub struct EqualTicks {
+    pub settings: CheckedSettings,
+    pub pace: Pace,
+    pub state: PhaseState,
+    pub count: u32,
+    pub ghost own_pace: { pace ≡ pace_of settings.settings pace.sample },
+}
+
+impl EqualTicks {
+    // Run or drop, which goes up by 1 at each tick and stops at its limit.
+    fn count_after(self, before: u32) -> u32
+        ensures { result ≡ count_after self.count before }
+    {
+        before.saturating_add(self.count).min(PhaseState::RUN_LIMIT)
     }
-}
 
-// A sum that goes up by the gain at each of n ticks, and stops at the level.
-fn filled(sum: u64, gain: u64, level: u64, n: u32) -> u64
-    requires { (sum ≤ 1500000000000) × (gain ≤ 1000000000000) × (n ≤ most_ticks) }
-    ensures { result ≡ min (sum + n * gain) level }
-{
-    let total = sum + (n as u64) * gain;
-    if total < level { total } else { level }
-}
-
-// A sum that goes down by the loss at each of n ticks, and stops at 0.
-fn drained(sum: u64, loss: u64, n: u32) -> u64
-    requires { (loss ≤ 1000000000000) × (n ≤ most_ticks) }
-    ensures { result ≡ sum - n * loss }
-{
-    let total = (n as u64) * loss;
-    if total < sum { sum - total } else { 0 }
-}
-
-fn sum_up_after(timing: Timing, settings: Settings, pace: Pace, n: u32, state: PhaseState) -> u64
-    requires { Ready settings pace state × (n ≤ most_ticks) }
-    ensures { result ≡ sum_up_after timing settings pace.sample n state.sum }
-{
-    match timing {
-        Timing::Definite => 0,
-        Timing::Curve(_) => filled(state.sum, pace.gain, trip_level(settings), n),
+    fn sum_up(self, timing: Timing) -> u64
+        ensures { result ≡ sum_up_after timing self.settings.settings self.pace.sample self.count self.state.sum }
+    {
+        match timing {
+            Timing::Definite => 0,
+            Timing::Curve(_) => {
+                let gained = (self.count as u64).saturating_mul(self.pace.gain);
+                let level = trip_level(self.settings.settings);
+                self.state.sum.saturating_add(gained).min(level)
+            }
+        }
     }
-}
 
-fn curve_down_after(
-    rule: ResetRule,
-    settings: Settings,
-    pace: Pace,
-    n: u32,
-    drop: u32,
-    state: PhaseState,
-) -> u64
-    requires { Ready settings pace state × (n ≤ most_ticks) }
-    ensures { result ≡ sum_down_after (Timing.Curve rule) settings pace.sample n drop state.sum }
-{
-    match rule {
-        ResetRule::Iec => if settings.reset_time <= drop {
-            0
+    fn sum_down(self, timing: Timing, drop: u32) -> u64
+        ensures { result ≡ sum_down_after timing self.settings.settings self.pace.sample self.count drop self.state.sum }
+    {
+        let sum = self.state.sum;
+        let reset_time = self.settings.settings.reset_time;
+        match timing {
+            Timing::Definite => 0,
+            Timing::Curve(ResetRule::Iec) => if reset_time <= drop { 0 } else { sum },
+            Timing::Curve(ResetRule::Ansi) => {
+                let lost = (self.count as u64).saturating_mul(self.pace.loss);
+                sum.saturating_sub(lost)
+            }
+        }
+    }
+
+    // What an idle phase keeps of its run.
+    fn run_down(self, timing: Timing, drop: u32) -> u32
+        ensures { result ≡ run_down timing self.settings.settings drop self.state.run }
+    {
+        let run = self.state.run;
+        let reset_time = self.settings.settings.reset_time;
+        match timing {
+            Timing::Definite => if reset_time <= drop { 0 } else { run },
+            Timing::Curve(_) => 0,
+        }
+    }
+
+    fn advance_on(self, timing: Timing) -> PhaseState
+        ensures { result ≡ advance_by (Kind.On timing) (started self.settings.settings self.state self.pace.sample)
+            self.settings.settings self.pace.sample self.count self.state }
+    {
+        if is_started(self.settings, self.state, self.pace.sample) {
+            PhaseState {
+                sum: self.sum_up(timing),
+                run: self.count_after(self.state.run),
+                drop: 0,
+                started: true,
+            }
         } else {
-            state.sum
-        },
-        ResetRule::Ansi => drained(state.sum, pace.loss, n),
-    }
-}
-
-fn sum_down_after(
-    timing: Timing,
-    settings: Settings,
-    pace: Pace,
-    n: u32,
-    drop: u32,
-    state: PhaseState,
-) -> u64
-    requires { Ready settings pace state × (n ≤ most_ticks) }
-    ensures { result ≡ sum_down_after timing settings pace.sample n drop state.sum }
-{
-    match timing {
-        Timing::Definite => 0,
-        Timing::Curve(rule) => curve_down_after(rule, settings, pace, n, drop, state),
-    }
-}
-
-// What an idle phase keeps of its run.
-fn run_down(timing: Timing, settings: Settings, drop: u32, run: u32) -> u32
-    ensures { result ≡ run_down timing settings drop run }
-{
-    match timing {
-        Timing::Definite => if settings.reset_time <= drop { 0 } else { run },
-        Timing::Curve(_) => 0,
-    }
-}
-
-fn advance_on(
-    timing: Timing,
-    settings: Settings,
-    pace: Pace,
-    n: u32,
-    state: PhaseState,
-) -> PhaseState
-    requires { Ready settings pace state × (n ≤ most_ticks) }
-    ensures { result ≡ advance_by (Kind.On timing) (started settings state pace.sample) settings pace.sample n state }
-{
-    if is_started(settings, state, pace.sample) {
-        let sum = sum_up_after(timing, settings, pace, n, state);
-        let run = count_after(n, state.run);
-        PhaseState {
-            sum,
-            run,
-            drop: 0,
-            started: true,
-        }
-    } else {
-        let drop = count_after(n, state.drop);
-        let sum = sum_down_after(timing, settings, pace, n, drop, state);
-        let run = run_down(timing, settings, drop, state.run);
-        PhaseState {
-            sum,
-            run,
-            drop,
-            started: false,
+            let drop = self.count_after(self.state.drop);
+            PhaseState {
+                sum: self.sum_down(timing, drop),
+                run: self.run_down(timing, drop),
+                drop,
+                started: false,
+            }
         }
     }
-}
 
-// The state after n ticks, n above 0, of an operation of that group.
-pub fn advance(kind: Kind, settings: Settings, pace: Pace, n: u32, state: PhaseState) -> PhaseState
-    requires { Ready settings pace state × (n ≤ most_ticks) }
-    ensures { result ≡ advance_by kind (started settings state pace.sample) settings pace.sample n state }
-{
-    match kind {
-        Kind::Off => PhaseState::clear(),
-        Kind::On(timing) => advance_on(timing, settings, pace, n, state),
+    // The state after the ticks, one at least, of an operation of that group.
+    pub fn advance(self, kind: Kind) -> PhaseState
+        ensures { result ≡ advance_by kind (started self.settings.settings self.state self.pace.sample)
+            self.settings.settings self.pace.sample self.count self.state }
+    {
+        match kind {
+            Kind::Off => PhaseState::clear(),
+            Kind::On(timing) => self.advance_on(timing),
+        }
     }
 }

@@ -10,6 +10,7 @@ pub mod settings;
 pub mod state;
 pub mod tick;
 
+pub use advance::EqualTicks;
 pub use checked::CheckedSettings;
 pub use settings::Settings;
 pub use state::PhaseState;

@@ -1,11 +1,10 @@
 // One tick of one phase.
-ghost use Rattle.std.specs.Prelude.{true, ◌≡◌};
+ghost use Rattle.std.specs.Prelude.{◌≡◌};
 ghost use Rattle.checks.specs.Checks.{first_failed};
-ghost use Rattle.phase.specs.device.Ranges.{InRange};
-ghost use Rattle.phase.specs.State.{valid};
 ghost use Rattle.phase.specs.Tick.{due, start_by, trip_by, tick_of, phase_checks, tick_answer};
 
-use crate::advance::{advance, is_started};
+use crate::advance::{EqualTicks, is_started};
+use crate::checked::CheckedSettings;
 use crate::operation::{Kind, Timing, kind_of};
 use crate::pace::pace_of;
 use crate::refusals::INVALID_STATE;
@@ -56,22 +55,24 @@ fn trip_by(kind: Kind, started: bool, settings: Settings, after: PhaseState) -> 
     }
 }
 
-// A tick of settings and a state that were checked before.
-pub fn tick_ready(settings: Settings, state: PhaseState, g: u32) -> Ticked
-    requires { InRange settings × (valid settings state ≡ true) }
-    ensures { result ≡ tick_of settings state g }
+// A tick of settings that were checked before.
+pub fn tick_ready(settings: CheckedSettings, state: PhaseState, g: u32) -> Ticked
+    ensures { result ≡ tick_of settings.settings state g }
 {
-    let kind = kind_of(settings.operation);
-    let pace = pace_of(settings, g);
+    let kind = kind_of(settings.settings.operation);
     let started = is_started(settings, state, g);
-    let after = advance(kind, settings, pace, 1, state);
-    let start = start_by(kind, started);
-    let trip = trip_by(kind, started, settings, after);
+    let once = EqualTicks {
+        settings,
+        pace: pace_of(settings.settings, g),
+        state,
+        count: 1,
+    };
+    let after = once.advance(kind);
     Ticked {
         refusal: 0,
         state: after,
-        start,
-        trip,
+        start: start_by(kind, started),
+        trip: trip_by(kind, started, settings.settings, after),
     }
 }
 
@@ -98,5 +99,5 @@ pub fn tick(settings: Settings, state: PhaseState, g: u32) -> Ticked
             trip: false,
         };
     }
-    tick_ready(settings, state, g)
+    tick_ready(CheckedSettings { settings }, state, g)
 }

@@ -6,6 +6,7 @@ use mathlib.Core.List.{[], ◌∷◌, map}
 use mathlib.Core.Path.{◌≡◌, refl, sym, ◌∙◌, ap}
 use borrow.Author.Tests.{eq-eqb, ne_eqb, le-leb}
 use lib.Dec.{leb, eqb}
+use Rattle.std.specs.Prelude.{Result, Ok, Err}
 use Rattle.checks.specs.Checks.{check, first_failed, lowest}
 use Rattle.checks.proofs.LowestLaws.{IsLowest, lowest_is_least}
 use Rattle.phase.specs.declared.operation.Kind.{Kind}
@@ -17,8 +18,6 @@ use Rattle.phase.specs.Settings.{settings_refusal}
 use Rattle.phase.specs.State.{valid}
 use Rattle.phase.specs.Tick.{phase_checks, tick_refusal, tick_of, tick_answer}
 use Rattle.phase.proofs.Accepted.{phase_passed, phase_allowed, phase_tick_accepted, tick_accepted}
-use Rattle.why.specs.declared.answer.Explained.{Explained}
-use Rattle.why.specs.declared.answer.Explained.TheVariants.{Because, Refused}
 use Rattle.why.specs.declared.reason.Reason.{Reason}
 use Rattle.why.specs.declared.reason.Reason.TheVariants.{TooFewTicks, SumBelowLevel}
 use Rattle.why.specs.Reason.{holds_by, holds, reasons_for, reason_of, place_of}
@@ -61,12 +60,12 @@ why_allowed settings state block e v b = rw (le-leb block 1 b) (phase_allowed se
 -- ---- the answers
 
 answer_numbers : (t : Bool) (reason : Reason) (refusal : ℕ)
-    → explained_numbers (cond t (Because reason) (Refused refusal)) ≡ cond t (reason_numbers reason) (refused_numbers refusal)
+    → explained_numbers (cond t (Ok reason) (Err refusal)) ≡ cond t (reason_numbers reason) (refused_numbers refusal)
 answer_numbers true reason refusal = refl
 answer_numbers false reason refusal = refl
 
 -- an answer and its numbers
-pub with_numbers : (settings : Settings) (state : PhaseState) (g block : ℕ) (answer : Explained) → answer ≡ why_answer settings state g block
+pub with_numbers : (settings : Settings) (state : PhaseState) (g block : ℕ) (answer : Result Reason ℕ) → answer ≡ why_answer settings state g block
     → (answer ≡ why_answer settings state g block) × (explained_numbers answer ≡ why_numbers settings state g block)
 unfolding why_answer why_numbers
 with_numbers settings state g block answer e =
@@ -74,24 +73,24 @@ with_numbers settings state g block answer e =
     (e, ap explained_numbers e ∙ answer_numbers (eqb refusal 0) (reason_of settings state g block) refusal)
 
 pub why_accepted : (settings : Settings) (state : PhaseState) (g block : ℕ) → why_refusal settings state block ≡ 0
-    → why_answer settings state g block ≡ Because (reason_of settings state g block)
+    → why_answer settings state g block ≡ Ok (reason_of settings state g block)
 unfolding why_answer
 why_accepted settings state g block e = rw (eq-eqb _ 0 e)
 
 pub why_refused : (settings : Settings) (state : PhaseState) (g block n : ℕ) → n ≡ why_refusal settings state block → (n ≡ 0 → ⊥)
-    → why_answer settings state g block ≡ Refused n
+    → why_answer settings state g block ≡ Err n
 unfolding why_answer
-why_refused settings state g block n e h = rw (ne_eqb _ 0 (λ z. h (e ∙ z))) (ap Refused (sym e))
+why_refused settings state g block n e h = rw (ne_eqb _ 0 (λ z. h (e ∙ z))) (ap Err (sym e))
 
 -- an accepted answer from its parts
 pub why_by_parts : (settings : Settings) (state : PhaseState) (g block : ℕ) (kind : Kind) (ticked : Ticked) (reason : Reason)
     → why_refusal settings state block ≡ 0 → kind ≡ kind_of settings.operation → ticked ≡ tick_answer settings state g
-    → reason ≡ reason_by kind settings ticked.start ticked.state block → Because reason ≡ why_answer settings state g block
+    → reason ≡ reason_by kind settings ticked.start ticked.state block → Ok reason ≡ why_answer settings state g block
 why_by_parts settings state g block kind ticked reason e k t r =
     let accepted : ticked ≡ tick_of settings state g = t ∙ tick_accepted settings state g (why_tick_accepted settings state block e) in
     let decided = decided_is_reason settings state g block (start_only_bit settings state block e) in
     let steps : reason ≡ reason_of settings state g block = rw (r, k, accepted) decided in
-    ap Because steps ∙ sym (why_accepted settings state g block e)
+    ap Ok steps ∙ sym (why_accepted settings state g block e)
 
 -- ---- E2
 
@@ -101,7 +100,7 @@ places_in_order settings after = refl
 
 -- a reason is the true one of a tick, by what a call of the tick answered
 pub record TrueReason (settings : Settings) (state : PhaseState) (g block : ℕ) (ticked : Ticked) (reason : Reason) : Type 0 where
-  pub told : why_answer settings state g block ≡ Because reason
+  pub told : why_answer settings state g block ≡ Ok reason
   pub first : FirstOf (holds_by settings ticked.start ticked.trip ticked.state block) (reasons_for settings ticked.state) reason
   pub outputs : TellsOutputs reason ticked.start ticked.trip (eqb block 1)
   pub ticks : (n : ℕ) → reason ≡ TooFewTicks n

@@ -1,11 +1,9 @@
 -- What asking why answers (02, E2).
-use Rattle.std.specs.Prelude.{ℕ, cond, List, [], ◌∷◌, ◌++◌, leb, eqb}
+use Rattle.std.specs.Prelude.{ℕ, Result, Ok, Err, cond, List, [], ◌∷◌, ◌++◌, leb, eqb}
 use Rattle.checks.specs.Checks.{Check, check, lowest}
 use Rattle.phase.specs.declared.settings.Settings.{Settings}
 use Rattle.phase.specs.declared.state.PhaseState.{PhaseState}
 use Rattle.phase.specs.Tick.{phase_checks}
-use Rattle.why.specs.declared.answer.Explained.{Explained}
-use Rattle.why.specs.declared.answer.Explained.TheVariants.{Because, Refused}
 use Rattle.why.specs.declared.reason.Reason.{Reason}
 use Rattle.why.specs.Reason.{reason_of, place_of, lacking_of}
 use Rattle.why.specs.Refusals.{wrong_block}
@@ -18,11 +16,11 @@ unfoldable pub why_refusal : Settings → PhaseState → ℕ → ℕ
 why_refusal settings state block = lowest (why_checks settings state block)
 
 -- what the call answers: a refused one tells no reason, and none hands back a state
-unfoldable pub why_answer : Settings → PhaseState → ℕ → ℕ → Explained
+unfoldable pub why_answer : Settings → PhaseState → ℕ → ℕ → Result Reason ℕ
 why_answer settings state g block =
     cond (eqb (why_refusal settings state block) 0)
-    (Because (reason_of settings state g block))
-    (Refused (why_refusal settings state block))
+    (Ok (reason_of settings state g block))
+    (Err (why_refusal settings state block))
 
 -- ---- the same in numbers
 
@@ -38,9 +36,9 @@ abbrev pub refused_numbers : ℕ → WhyNumbers
 refused_numbers refusal = record { refusal = refusal; place = 0; lacking = 0 }
 
 -- of each case of the answer
-abbrev pub explained_numbers : Explained → WhyNumbers
-explained_numbers (Because reason) = reason_numbers reason
-explained_numbers (Refused refusal) = refused_numbers refusal
+abbrev pub explained_numbers : Result Reason ℕ → WhyNumbers
+explained_numbers (Ok reason) = reason_numbers reason
+explained_numbers (Err refusal) = refused_numbers refusal
 
 unfoldable pub why_numbers : Settings → PhaseState → ℕ → ℕ → WhyNumbers
 why_numbers settings state g block =

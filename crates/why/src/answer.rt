@@ -9,25 +9,18 @@ use phase::operation::kind_of;
 use phase::tick::{phase_first_failed, tick};
 use phase::{PhaseState, Settings};
 
-// The reason; or the refusal's number, and no reason.
-#[derive(Clone, Copy)]
-pub enum Explained {
-    Because(Reason),
-    Refused(u32),
-}
-
-// Why the tick that these settings, this state before it and this sample give did or did not trip, under a block byte. Asking
-// changes nothing.
-pub fn why(settings: Settings, state: PhaseState, g: u32, block: u8) -> Explained
+// Why the tick that these settings, this state before it and this sample give did or did not trip, under a block byte; or the
+// refusal's number. Asking changes nothing.
+pub fn why(settings: Settings, state: PhaseState, g: u32, block: u8) -> Result<Reason, u32>
     ensures answer { result ≡ why_answer settings state g block }
     ensures numbers { explained_numbers result ≡ why_numbers settings state g block }
 {
     let refusal = phase_first_failed(settings, state, first_failed(block <= 1, WRONG_BLOCK, 0));
     if refusal != 0 {
-        return Explained::Refused(refusal);
+        return Err(refusal);
     }
     let kind = kind_of(settings.operation);
     let ticked = tick(settings, state, g);
     let after = ticked.state;
-    Explained::Because(reason_by(kind, settings, ticked.start, after, block))
+    Ok(reason_by(kind, settings, ticked.start, after, block))
 }

@@ -5,5 +5,5 @@ mod answer;
 mod reason;
 pub mod refusals;
 
-pub use answer::{Explained, why};
+pub use answer::why;
 pub use reason::Reason;

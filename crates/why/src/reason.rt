@@ -8,7 +8,7 @@ use phase::settings::trip_level;
 use phase::{PhaseState, Settings};
 
 // In the order in which they are looked at. The two that something is lacking for carry how much.
-#[derive(Clone, Copy)]
+#[derive(Clone, Copy, PartialEq, Eq)]
 pub enum Reason {
     OperationOff,
     NotStarted,

@@ -13,10 +13,6 @@ use Rattle.phase.specs.Settings.{trip_level}
 use Rattle.phase.specs.State.{run_limit, clear_state}
 use Rattle.phase.specs.Tick.{gain_at, loss_at, started, kept_till, run_down}
 
--- so many ticks at once do not overflow the code's numbers; no jump has more
-abbrev pub most_ticks : ℕ
-most_ticks = 3600000
-
 -- ---- the state after n ticks, n above 0
 
 abbrev pub count_after : ℕ → ℕ → ℕ

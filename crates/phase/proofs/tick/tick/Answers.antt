@@ -12,12 +12,12 @@ returns-then-refusal-ne0 c =
     let e : c.phase_first_failed-refusal.result ≡ tick_refusal a.settings a.state = c.phase_first_failed-refusal.ensures in
     sym (tick_refused a.settings a.state a.g _ e c.if-refusal-ne0.true)
 
-pub tick_ready-requires : goal.tick_ready-requires
+pub invariant_of-tick_ready : goal.invariant_of-tick_ready
 unfolding tick_refusal
-tick_ready-requires c =
+invariant_of-tick_ready c =
     let a = c.args in
     let e : c.phase_first_failed-refusal.result ≡ tick_refusal a.settings a.state = c.phase_first_failed-refusal.ensures in
-    tick_passed a.settings a.state (sym e ∙ c.if-refusal-ne0.false)
+    record { in_range = (tick_passed a.settings a.state (sym e ∙ c.if-refusal-ne0.false)).0 }
 
 pub returns : goal.returns
 unfolding tick_refusal
