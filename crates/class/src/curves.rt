@@ -84,13 +84,7 @@ fn reset_line(rt: HostRuntime, ratio: u32, milliseconds: u32, places: u32) {
 }
 
 // Where the print is known to be wrong, it must be, and the right one is told.
-fn operate_line(
-    rt: HostRuntime,
-    operation: u32,
-    ratio: u32,
-    printed: Printed,
-    right: Option<u32>,
-) {
+fn operate_line(rt: HostRuntime, operation: u32, ratio: u32, printed: Printed, right: Option<u32>) {
     let time = operate_time(operation, ratio);
     compare(rt, operation, ratio, time, printed);
     let agrees = printed.holds(time);
@@ -100,10 +94,7 @@ fn operate_line(
                 milliseconds,
                 ..printed
             };
-            say(
-                rt,
-                format_args!("   THE PRINT IS WRONG, right is{right}"),
-            );
+            say(rt, format_args!("   THE PRINT IS WRONG, right is{right}"));
             verdict(rt, right.holds(time));
         }
         Some(_) => verdict(rt, false),

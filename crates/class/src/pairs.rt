@@ -45,11 +45,13 @@ struct Stretch {
     second: u32,
 }
 
-fn stretch(ticks: u32, first: u32, second: u32) -> Stretch {
-    Stretch {
-        ticks,
-        first,
-        second,
+impl Stretch {
+    fn new(ticks: u32, first: u32, second: u32) -> Self {
+        Stretch {
+            ticks,
+            first,
+            second,
+        }
     }
 }
 
@@ -122,28 +124,28 @@ pub(crate) fn pairs_of_recordings(rt: HostRuntime) {
         rt,
         "IEC ExtInv, 15 and 16 times the setting, a dip of 59 ticks to 0 and to 50 %",
         4,
-        stretch(100, 300000, 320000),
-        stretch(59, 0, 10000),
+        Stretch::new(100, 300000, 320000),
+        Stretch::new(59, 0, 10000),
     );
     compare(
         rt,
         "IEC ExtInv, 15 times the setting, a dip of 60 ticks to just below 95 % and to 95 %",
         4,
-        stretch(100, 300000, 300000),
-        stretch(60, 18999, 19000),
+        Stretch::new(100, 300000, 300000),
+        Stretch::new(60, 18999, 19000),
     );
     compare(
         rt,
         "ANSI Inv, 20 times the setting, a dip of 50 ticks to 0 and to 90 %",
         6,
-        stretch(100, 400000, 400000),
-        stretch(50, 0, 18000),
+        Stretch::new(100, 400000, 400000),
+        Stretch::new(50, 0, 18000),
     );
     compare(
         rt,
         "Definite, just above the setting, a dip of 60 ticks to just below 95 % and to 95 %",
         1,
-        stretch(30, 20001, 20001),
-        stretch(60, 18999, 19000),
+        Stretch::new(30, 20001, 20001),
+        Stretch::new(60, 18999, 19000),
     );
 }

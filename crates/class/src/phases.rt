@@ -88,11 +88,7 @@ fn definite_examples(rt: HostRuntime) {
         "reset time 60, the 59th idle tick keeps the run",
         run_after(58) == 39,
     );
-    example(
-        rt,
-        "reset time 60, the 60th clears it",
-        run_after(59) == 0,
-    );
+    example(rt, "reset time 60, the 60th clears it", run_after(59) == 0);
 }
 
 pub(crate) fn phase_examples(rt: HostRuntime) {

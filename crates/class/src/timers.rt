@@ -12,14 +12,14 @@ fn plain(on: bool) -> Inputs {
     }
 }
 
-// Two ticks on, one off, one on, from fresh: what a timer with d 0 gives at each.
-fn marks<F: Fn(TimerState, u32, Inputs) -> Timed>(rt: HostRuntime, what: &str, tick: F)
+// Two ticks on, one off, one on, from fresh: what a timer gives at each.
+fn marks<F: Fn(TimerState, Inputs) -> Timed>(rt: HostRuntime, what: &str, tick: F)
     requires { F.IsAlwaysCallable tick }
 {
     say(rt, what);
     let mut state = TimerState::fresh();
     for on in [true, true, false, true] {
-        let timed = tick(state, 0, plain(on));
+        let timed = tick(state, plain(on));
         say(rt, timed.on as u8);
         state = timed.state;
     }
@@ -28,6 +28,14 @@ fn marks<F: Fn(TimerState, u32, Inputs) -> Timed>(rt: HostRuntime, what: &str, t
 
 pub(crate) fn timer_examples(rt: HostRuntime) {
     say(rt, "\nTimers with d 0, from fresh; input 1101\n");
-    marks(rt, "Hold is never on: ", hold);
-    marks(rt, "Set delay copies the input: ", set_delay);
+    marks(
+        rt,
+        "Hold is never on: ",
+        |state, inputs| hold(state, 0, inputs),
+    );
+    marks(
+        rt,
+        "Set delay copies the input: ",
+        |state, inputs| set_delay(state, 0, inputs),
+    );
 }
