@@ -9,11 +9,10 @@ use lib.Dec.{leb, ltb, eqb, lit<}
 use lib.ListN.{length, get_or, drop, length-append}
 use lib.Seq.{append_snoc}
 use borrow.Author.Tests.{eq-eqb, ne_eqb, eqb-true, eqb-false, le-leb, lt-leb, le-ltb, lt-ltb}
+use Rattle.std.specs.Prelude.{Option, Some, None, Ok}
 use Rattle.faults.specs.declared.fault.Flaw.{Flaw}
 use Rattle.faults.specs.declared.fault.Flaw.TheVariants.{NoDigit, DigitTooMany, StrayByte, FieldCount, LineEnd}
 use Rattle.faults.specs.declared.fault.Fault.{Fault}
-use Rattle.faults.specs.declared.fault.Shape.{Shape}
-use Rattle.faults.specs.declared.fault.Shape.TheVariants.{Right, Wrong}
 use Rattle.faults.specs.declared.reader.Closing.TheVariants.{Last}
 use Rattle.text.specs.Number.{is_digit}
 use Rattle.text.specs.Line.{comma, cr, lf, is_lf}
@@ -52,11 +51,11 @@ unfolding lowest_of
 lowest_first f [] h = refl
 lowest_first f (g ∷ gs) (here, more) = rw (le-ltb g.offset f.offset here) (lowest_first f gs more)
 
-told_first : (fs gs : List Fault) (f : Fault) → fs ≡ f ∷ gs → From f.offset fs → told fs ≡ Wrong f
+told_first : (fs gs : List Fault) (f : Fault) → fs ≡ f ∷ gs → From f.offset fs → told fs ≡ Some f
 unfolding told
 told_first fs gs f e h =
     let (here, more) : From f.offset (f ∷ gs) = rw e at h in
-    rw e (ap Wrong (lowest_first f gs more))
+    rw e (ap Some (lowest_first f gs more))
 
 -- ---- the faults of a line stand in the order of their offsets
 
@@ -77,11 +76,11 @@ module _ (ws : List ℕ) where
       (from_less (length before) (length (before ++ (b ∷ []))) more (faults_from ws (before ++ (b ∷ [])) after) (from_here (before ++ (b ∷ [])) after))
 
   module _ (before : List ℕ) where
-    abbrev told_from : List ℕ → Shape
+    abbrev told_from : List ℕ → Option Fault
     told_from after = told (faults_from ws before after)
 
     -- where one stands here, the first of those is told
-    pub told_here : (after : List ℕ) (f : Fault) (fs : List Fault) → faults_here ws before after ≡ f ∷ fs → told_from after ≡ Wrong f
+    pub told_here : (after : List ℕ) (f : Fault) (fs : List Fault) → faults_here ws before after ≡ f ∷ fs → told_from after ≡ Some f
     unfolding faults_from
     told_here [] f fs e =
         let (at, more) : At (length before) (f ∷ fs) = rw e at (here_at in_order before []) in
@@ -96,7 +95,7 @@ module _ (ws : List ℕ) where
     unfolding faults_from
     told_later b after e = rw e
 
-    pub told_none : faults_here ws before [] ≡ [] → told_from [] ≡ Right
+    pub told_none : faults_here ws before [] ≡ [] → told_from [] ≡ None
     unfolding faults_from told
     told_none e = rw e
 
@@ -106,23 +105,23 @@ module _ (ws : List ℕ) where
       abbrev is : Flaw → Bool → Type 0
       is flaw t = stands flaw ws before after ≡ t
 
-      pub tells_no_digit : is NoDigit true → told_from after ≡ Wrong (fault_at NoDigit before)
+      pub tells_no_digit : is NoDigit true → told_from after ≡ Some (fault_at NoDigit before)
       tells_no_digit a = told_here after (fault_at NoDigit before) (faults_of (DigitTooMany ∷ StrayByte ∷ FieldCount ∷ LineEnd ∷ []) ws before after) (rw a)
 
       module _ (a : is NoDigit false) where
-        pub tells_too_many : is DigitTooMany true → told_from after ≡ Wrong (fault_at DigitTooMany before)
+        pub tells_too_many : is DigitTooMany true → told_from after ≡ Some (fault_at DigitTooMany before)
         tells_too_many b = told_here after (fault_at DigitTooMany before) (faults_of (StrayByte ∷ FieldCount ∷ LineEnd ∷ []) ws before after) (rw (a, b))
 
         module _ (b : is DigitTooMany false) where
-          pub tells_stray : is StrayByte true → told_from after ≡ Wrong (fault_at StrayByte before)
+          pub tells_stray : is StrayByte true → told_from after ≡ Some (fault_at StrayByte before)
           tells_stray c = told_here after (fault_at StrayByte before) (faults_of (FieldCount ∷ LineEnd ∷ []) ws before after) (rw (a, b, c))
 
           module _ (c : is StrayByte false) where
-            pub tells_count : is FieldCount true → told_from after ≡ Wrong (fault_at FieldCount before)
+            pub tells_count : is FieldCount true → told_from after ≡ Some (fault_at FieldCount before)
             tells_count d = told_here after (fault_at FieldCount before) (faults_of (LineEnd ∷ []) ws before after) (rw (a, b, c, d))
 
             module _ (d : is FieldCount false) where
-              pub tells_end : is LineEnd true → told_from after ≡ Wrong (fault_at LineEnd before)
+              pub tells_end : is LineEnd true → told_from after ≡ Some (fault_at LineEnd before)
               tells_end e = told_here after (fault_at LineEnd before) (faults_of [] ws before after) (rw (a, b, c, d, e))
 
               pub none_here : is LineEnd false → faults_here ws before after ≡ []
@@ -191,9 +190,9 @@ module _ (ws t : List ℕ) (done : List (List ℕ)) (current : List ℕ) (p : Pa
         (none_here ws t (d ∷ u) digit_due (too_many_by (d ∷ u) ∙ rw (e, lt-leb (get_or ws k 0) (length current) h)) (stray_by (d ∷ u) ∙ rw e)
         (count_by (d ∷ u) ∙ rw (no_comma, not_cr)) (end_by (d ∷ u) ∙ rw e (no_cr_digit (eqb (k + 1) (length ws)) (not (is_empty current)) (not (eqb d cr)))))
 
-    pub digit_too_many_law : get_or ws k 0 ≤ length current → told (faults_from ws t (d ∷ u)) ≡ Wrong (record { flaw = DigitTooMany; offset = length t; field = k + 1 })
+    pub digit_too_many_law : get_or ws k 0 ≤ length current → told (faults_from ws t (d ∷ u)) ≡ Some (record { flaw = DigitTooMany; offset = length t; field = k + 1 })
     digit_too_many_law h =
-        tells_too_many ws t (d ∷ u) digit_due (too_many_by (d ∷ u) ∙ rw (e, le-leb (get_or ws k 0) (length current) h)) ∙ ap Wrong (fault_here DigitTooMany)
+        tells_too_many ws t (d ∷ u) digit_due (too_many_by (d ∷ u) ∙ rw (e, le-leb (get_or ws k 0) (length current) h)) ∙ ap Some (fault_here DigitTooMany)
 
   -- ---- after the CR
 
@@ -232,24 +231,24 @@ module _ (ws t : List ℕ) (done : List (List ℕ)) (current : List ℕ) (p : Pa
       rw (length-append, length-append, count_other comma closed lf refl, count_other comma t cr refl, field_here, two)
 
   module _ (u : List ℕ) where
-    end_closed : stands LineEnd ws closed u ≡ true → told (faults_from ws closed u) ≡ Wrong (record { flaw = LineEnd; offset = length t + 1; field = k + 1 })
+    end_closed : stands LineEnd ws closed u ≡ true → told (faults_from ws closed u) ≡ Some (record { flaw = LineEnd; offset = length t + 1; field = k + 1 })
     end_closed e =
-        tells_end ws closed u (rw cr_before) (rw cr_before) (rw cr_before) (rw cr_before) e ∙ ap Wrong fault_closed
+        tells_end ws closed u (rw cr_before) (rw cr_before) (rw cr_before) (rw cr_before) e ∙ ap Some fault_closed
 
-    end_whole : stands LineEnd ws whole u ≡ true → told (faults_from ws whole u) ≡ Wrong (record { flaw = LineEnd; offset = length t + 2; field = k + 1 })
+    end_whole : stands LineEnd ws whole u ≡ true → told (faults_from ws whole u) ≡ Some (record { flaw = LineEnd; offset = length t + 2; field = k + 1 })
     end_whole e =
-        tells_end ws whole u (rw lf_before) (rw lf_before) (rw lf_before) (rw lf_before) e ∙ ap Wrong fault_whole
+        tells_end ws whole u (rw lf_before) (rw lf_before) (rw lf_before) (rw lf_before) e ∙ ap Some fault_whole
 
-  after_lf : (u : List ℕ) (more : Shape) → told (faults_from ws whole u) ≡ shape_by (cond (is_empty u) Last (flawed_at LineEnd (length t + 2) (k + 1))) more
+  after_lf : (u : List ℕ) (more : Option Fault) → told (faults_from ws whole u) ≡ shape_by (cond (is_empty u) (Ok Last) (flawed_at LineEnd (length t + 2) (k + 1))) more
   after_lf [] more = told_none ws whole (none_here ws whole [] (rw lf_before) (rw lf_before) (rw lf_before) (rw lf_before) (end_due []))
   after_lf (a ∷ u) more = end_whole (a ∷ u) (end_due (a ∷ u))
 
-  after_cr : (u : List ℕ) (more : Shape) → told (faults_from ws closed u) ≡ shape_by (ending_of (length t) (k + 1) (cr ∷ u)) more
+  after_cr : (u : List ℕ) (more : Option Fault) → told (faults_from ws closed u) ≡ shape_by (ending_of (length t) (k + 1) (cr ∷ u)) more
   after_cr [] more = end_closed [] (lf_due [])
   after_cr (a ∷ u) more = by_lf (eqb a lf) refl
     where
       by_lf : (e : Bool) → eqb a lf ≡ e
-          → told (faults_from ws closed (a ∷ u)) ≡ shape_by (cond e (cond (is_empty u) Last (flawed_at LineEnd (length t + 2) (k + 1))) (flawed_at LineEnd (length t + 1) (k + 1))) more
+          → told (faults_from ws closed (a ∷ u)) ≡ shape_by (cond e (cond (is_empty u) (Ok Last) (flawed_at LineEnd (length t + 2) (k + 1))) (flawed_at LineEnd (length t + 1) (k + 1))) more
       by_lf true e =
           told_later ws closed a u (none_here ws closed (a ∷ u) (rw cr_before) (rw cr_before) (rw cr_before) (rw cr_before) (lf_due (a ∷ u) ∙ rw e))
           ∙ ap (λ (b : ℕ). told (faults_from ws (closed ++ (b ∷ [])) u)) (eqb-true a lf e)
@@ -280,7 +279,7 @@ module _ (ws t : List ℕ) (done : List (List ℕ)) (current : List ℕ) (p : Pa
     -- by whether the field has no digit, and whether it is the last that is due
     abbrev Closes : Bool → Bool → List ℕ → Type 0
     Closes none last u =
-        (more : Shape) → (begins comma u ≡ true → told (faults_from ws (t ++ (comma ∷ [])) (drop 1 u)) ≡ more)
+        (more : Option Fault) → (begins comma u ≡ true → told (faults_from ws (t ++ (comma ∷ [])) (drop 1 u)) ≡ more)
         → told (faults_from ws t u) ≡ shape_by (closing_by (closes_none u) none (begins comma u) last at field (ending_of at field u)) more
 
     module _ (none last : Bool) (x : is_empty current ≡ none) (y : eqb field (length ws) ≡ last) where
@@ -290,11 +289,11 @@ module _ (ws t : List ℕ) (done : List (List ℕ)) (current : List ℕ) (p : Pa
         where
           by_tests : (none last : Bool) → is_empty current ≡ none → ltb field (length ws) ≡ not last
               → told (faults_from ws t []) ≡ shape_by (closing_by false none false last at field (flawed_at LineEnd at field)) more
-          by_tests true last x z = tells_no_digit ws t [] (no_digit_by [] ∙ rw x) ∙ ap Wrong (fault_here NoDigit)
+          by_tests true last x z = tells_no_digit ws t [] (no_digit_by [] ∙ rw x) ∙ ap Some (fault_here NoDigit)
           by_tests false true x z =
-              tells_end ws t [] (no_digit_by [] ∙ rw x) (too_many_by []) (stray_by []) (count_by [] ∙ rw z) (end_by []) ∙ ap Wrong (fault_here LineEnd)
+              tells_end ws t [] (no_digit_by [] ∙ rw x) (too_many_by []) (stray_by []) (count_by [] ∙ rw z) (end_by []) ∙ ap Some (fault_here LineEnd)
           by_tests false false x z =
-              tells_count ws t [] (no_digit_by [] ∙ rw x) (too_many_by []) (stray_by []) (count_by [] ∙ rw z) ∙ ap Wrong (fault_here FieldCount)
+              tells_count ws t [] (no_digit_by [] ∙ rw x) (too_many_by []) (stray_by []) (count_by [] ∙ rw z) ∙ ap Some (fault_here FieldCount)
 
       closes_by_comma : (u : List ℕ) → Closes none last (comma ∷ u)
       unfolding closing_by
@@ -302,9 +301,9 @@ module _ (ws t : List ℕ) (done : List (List ℕ)) (current : List ℕ) (p : Pa
         where
           by_tests : (none last : Bool) → is_empty current ≡ none → leb (length ws) field ≡ last → eqb field (length ws) ≡ last
               → told (faults_from ws t (comma ∷ u)) ≡ shape_by (closing_by false none true last at field (ending_of at field (comma ∷ u))) more
-          by_tests true last x z w = tells_no_digit ws t (comma ∷ u) (no_digit_by (comma ∷ u) ∙ rw x) ∙ ap Wrong (fault_here NoDigit)
+          by_tests true last x z w = tells_no_digit ws t (comma ∷ u) (no_digit_by (comma ∷ u) ∙ rw x) ∙ ap Some (fault_here NoDigit)
           by_tests false true x z w =
-              tells_count ws t (comma ∷ u) (no_digit_by (comma ∷ u) ∙ rw x) (too_many_by (comma ∷ u)) (stray_by (comma ∷ u)) (count_by (comma ∷ u) ∙ rw z) ∙ ap Wrong (fault_here FieldCount)
+              tells_count ws t (comma ∷ u) (no_digit_by (comma ∷ u) ∙ rw x) (too_many_by (comma ∷ u)) (stray_by (comma ∷ u)) (count_by (comma ∷ u) ∙ rw z) ∙ ap Some (fault_here FieldCount)
           by_tests false false x z w =
               told_later ws t comma u (none_here ws t (comma ∷ u) (no_digit_by (comma ∷ u) ∙ rw x) (too_many_by (comma ∷ u)) (stray_by (comma ∷ u)) (count_by (comma ∷ u) ∙ rw z) (end_by (comma ∷ u) ∙ rw w))
               ∙ q refl
@@ -315,18 +314,18 @@ module _ (ws t : List ℕ) (done : List (List ℕ)) (current : List ℕ) (p : Pa
         where
           by_tests : (none last : Bool) → is_empty current ≡ none → ltb field (length ws) ≡ not last
               → told (faults_from ws t (cr ∷ u)) ≡ shape_by (closing_by false none false last at field (ending_of at field (cr ∷ u))) more
-          by_tests true last x z = tells_no_digit ws t (cr ∷ u) (no_digit_by (cr ∷ u) ∙ rw x) ∙ ap Wrong (fault_here NoDigit)
+          by_tests true last x z = tells_no_digit ws t (cr ∷ u) (no_digit_by (cr ∷ u) ∙ rw x) ∙ ap Some (fault_here NoDigit)
           by_tests false true x z =
               told_later ws t cr u (none_here ws t (cr ∷ u) (no_digit_by (cr ∷ u) ∙ rw x) (too_many_by (cr ∷ u)) (stray_by (cr ∷ u)) (count_by (cr ∷ u) ∙ rw z) (end_by (cr ∷ u) ∙ no_cr_due (eqb field (length ws)) (not (is_empty current))))
               ∙ after_cr u more
           by_tests false false x z =
-              tells_count ws t (cr ∷ u) (no_digit_by (cr ∷ u) ∙ rw x) (too_many_by (cr ∷ u)) (stray_by (cr ∷ u)) (count_by (cr ∷ u) ∙ rw z) ∙ ap Wrong (fault_here FieldCount)
+              tells_count ws t (cr ∷ u) (no_digit_by (cr ∷ u) ∙ rw x) (too_many_by (cr ∷ u)) (stray_by (cr ∷ u)) (count_by (cr ∷ u) ∙ rw z) ∙ ap Some (fault_here FieldCount)
 
       closes_by_other : (b : ℕ) (u : List ℕ) → is_digit b ≡ false → eqb b comma ≡ false → eqb b cr ≡ false → Closes none last (b ∷ u)
       unfolding closing_by
       closes_by_other b u e f g more q =
           tells_stray ws t (b ∷ u) (no_digit_by (b ∷ u) ∙ rw (f, g) (and-false (is_empty current))) (too_many_by (b ∷ u) ∙ rw e) (stray_by (b ∷ u) ∙ rw (e, f, g))
-          ∙ ap Wrong (fault_here StrayByte) ∙ rw (f, g)
+          ∙ ap Some (fault_here StrayByte) ∙ rw (f, g)
 
       closes_by : (u : List ℕ) → begins_digit u ≡ false → Closes none last u
       closes_by [] e = closes_at_end
@@ -343,6 +342,6 @@ module _ (ws t : List ℕ) (done : List (List ℕ)) (current : List ℕ) (p : Pa
 
 -- ---- a line of no bytes
 
-pub empty_line : (ws : List ℕ) → 1 ≤ length ws → shape_of ws [] ≡ Wrong (record { flaw = NoDigit; offset = 0; field = 1 })
+pub empty_line : (ws : List ℕ) → 1 ≤ length ws → shape_of ws [] ≡ Some (record { flaw = NoDigit; offset = 0; field = 1 })
 unfolding shape_of closing_by
-empty_line ws h = field_closes ws [] [] [] passed_nothing h [] refl Right (λ e. absurd (false≢true e))
+empty_line ws h = field_closes ws [] [] [] passed_nothing h [] refl None (λ e. absurd (false≢true e))

@@ -3,5 +3,4 @@ pub mod FaultLaws
 pub mod RightLaws
 pub mod PlaceLaws
 pub mod LineLaws
-pub mod ClosingLaws
 pub mod ReadingLaws

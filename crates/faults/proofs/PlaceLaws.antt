@@ -12,10 +12,9 @@ use lib.Dec.{ltb, eqb}
 use lib.ListN.{length, get_or, drop, length-append}
 use lib.Seq.{drop-cons}
 use borrow.Author.Tests.{ltb-true, ltb-false, eqb-false}
+use Rattle.std.specs.Prelude.{Option, Some, None, Result, Ok}
 use Rattle.faults.specs.declared.fault.Flaw.TheVariants.{LineEnd}
 use Rattle.faults.specs.declared.fault.Fault.{Fault}
-use Rattle.faults.specs.declared.fault.Shape.{Shape}
-use Rattle.faults.specs.declared.fault.Shape.TheVariants.{Right, Wrong}
 use Rattle.faults.specs.declared.reader.Closing.{Closing}
 use Rattle.faults.specs.declared.reader.Closing.TheVariants.{Last}
 use Rattle.text.specs.Number.{is_digit}
@@ -58,7 +57,7 @@ first_lowest f (g ∷ gs) =
     (λ e. between f g (lowest_of f gs) gs (ltb-false g.offset f.offset e) (first_lowest f gs))
 
 -- THE FAULT TOLD IS THE FIRST OF THOSE AT THE LOWEST OFFSET
-pub told_lowest : (fs : List Fault) (f : Fault) → told fs ≡ Wrong f → FirstLowest fs f
+pub told_lowest : (fs : List Fault) (f : Fault) → told fs ≡ Some f → FirstLowest fs f
 unfolding told
 told_lowest [] f e = absurd (false≢true (sym (ap is_right e)))
 told_lowest (g ∷ gs) f e = let same : lowest_of g gs ≡ f = cc in rw (← same) (first_lowest g gs)
@@ -71,26 +70,26 @@ lowest_is_one P (g ∷ gs) f (here, more) (inr (low, l)) = lowest_is_one P gs f 
 
 -- ---- a line that goes on has the fault of its front
 
-told_from_law : (n : ℕ) (fs : List Fault) (f : Fault) → From n fs → told fs ≡ Wrong f → n ≤ f.offset
+told_from_law : (n : ℕ) (fs : List Fault) (f : Fault) → From n fs → told fs ≡ Some f → n ≤ f.offset
 told_from_law n fs f h e = lowest_is_one (λ (g : Fault). n ≤ g.offset) fs f h (told_lowest fs f e)
 
 module _ (ws more : List ℕ) (f : Fault) where
-  pub front_tells : (before after : List ℕ) → told (faults_from ws before after) ≡ Wrong f → f.offset < length before + length after
-      → told (faults_from ws before (after ++ more)) ≡ Wrong f
+  pub front_tells : (before after : List ℕ) → told (faults_from ws before after) ≡ Some f → f.offset < length before + length after
+      → told (faults_from ws before (after ++ more)) ≡ Some f
   front_tells before [] e h = absurd (omega (arith, h, told_from_law (length before) (faults_from ws before []) f (from_here ws before []) e))
   front_tells before (b ∷ after) e h = by_here (faults_here ws before (b ∷ after)) refl (front_tells (before ++ (b ∷ [])) after)
     where
       by_here : (hs : List Fault) → faults_here ws before (b ∷ after) ≡ hs
-          → (told (faults_from ws (before ++ (b ∷ [])) after) ≡ Wrong f → f.offset < length (before ++ (b ∷ [])) + length after
-          → told (faults_from ws (before ++ (b ∷ [])) (after ++ more)) ≡ Wrong f)
-          → told (faults_from ws before (b ∷ (after ++ more))) ≡ Wrong f
+          → (told (faults_from ws (before ++ (b ∷ [])) after) ≡ Some f → f.offset < length (before ++ (b ∷ [])) + length after
+          → told (faults_from ws (before ++ (b ∷ [])) (after ++ more)) ≡ Some f)
+          → told (faults_from ws before (b ∷ (after ++ more))) ≡ Some f
       by_here [] q next =
           told_later ws before b (after ++ more) q
           ∙ next (sym (told_later ws before b after q) ∙ e) (rw length-append (omega (arith, h)))
       by_here (g ∷ gs) q next =
           told_here ws before (b ∷ (after ++ more)) g gs q ∙ sym (told_here ws before (b ∷ after) g gs q) ∙ e
 
-pub front_decides : (ws s more : List ℕ) (f : Fault) → shape_of ws s ≡ Wrong f → f.offset < length s → shape_of ws (s ++ more) ≡ Wrong f
+pub front_decides : (ws s more : List ℕ) (f : Fault) → shape_of ws s ≡ Some f → f.offset < length s → shape_of ws (s ++ more) ≡ Some f
 unfolding shape_of
 front_decides ws s more f e h = front_tells ws more f [] s e (omega (arith, h))
 
@@ -113,17 +112,17 @@ module _ (ws : List ℕ) where
       (at_upto n (length before) (faults_here ws before (b ∷ after)) (omega (arith, h)) (here_at ws in_order before (b ∷ after)))
       (upto n (before ++ (b ∷ [])) after (rw length-append (omega (arith, h))))
 
-  pub offset_within : (s : List ℕ) (f : Fault) → shape_of ws s ≡ Wrong f → f.offset ≤ length s
+  pub offset_within : (s : List ℕ) (f : Fault) → shape_of ws s ≡ Some f → f.offset ≤ length s
   unfolding shape_of
   offset_within s f e = lowest_is_one (λ (g : Fault). g.offset ≤ length s) (faults_from ws [] s) f (upto (length s) [] s (omega arith)) (told_lowest (faults_from ws [] s) f e)
 
 -- ---- and not past the longest right line
 
-abbrev Near : ℕ → Shape → Type 0
-Near n Right = Unit {0}
-Near n (Wrong f) = f.offset ≤ n
+abbrev Near : ℕ → Option Fault → Type 0
+Near n None = Unit {0}
+Near n (Some f) = f.offset ≤ n
 
-near_closing : (n at field : ℕ) (stray none is_comma last : Bool) (ending : Closing) (more : Shape) → at ≤ n → Near n (shape_by ending more) → (is_comma ≡ true → last ≡ false → Near n more)
+near_closing : (n at field : ℕ) (stray none is_comma last : Bool) (ending : Result Closing Fault) (more : Option Fault) → at ≤ n → Near n (shape_by ending more) → (is_comma ≡ true → last ≡ false → Near n more)
     → Near n (shape_by (closing_by stray none is_comma last at field ending) more)
 unfolding closing_by
 near_closing n at field true none is_comma last ending more l e m = l
@@ -133,11 +132,11 @@ near_closing n at field false false true false ending more l e m = m refl refl
 near_closing n at field false false false true ending more l e m = e
 near_closing n at field false false false false ending more l e m = l
 
-near_ending : (n at field : ℕ) (u : List ℕ) (more : Shape) → at + 2 ≤ n → Near n (shape_by (ending_of at field u) more)
+near_ending : (n at field : ℕ) (u : List ℕ) (more : Option Fault) → at + 2 ≤ n → Near n (shape_by (ending_of at field u) more)
 near_ending n at field [] more l = omega arith
 near_ending n at field (b ∷ u) more l = by_tests (begins lf u) (is_empty (drop 1 u))
   where
-    by_tests : (x y : Bool) → Near n (shape_by (cond x (cond y Last (flawed_at LineEnd (at + 2) field)) (flawed_at LineEnd (at + 1) field)) more)
+    by_tests : (x y : Bool) → Near n (shape_by (cond x (cond y (Ok Last) (flawed_at LineEnd (at + 2) field)) (flawed_at LineEnd (at + 1) field)) more)
     by_tests true true = tt
     by_tests true false = l
     by_tests false y = omega arith
@@ -171,7 +170,7 @@ module _ (ws : List ℕ) where
           (near_closing n (length t) field (closes_none u) (eqb (length current) 0) (begins comma u) (eqb field (length ws)) (ending_of (length t) field u) rest
           (omega (arith, b)) (near_ending n (length t) field u rest (omega (arith, b))) after)
         where
-          rest : Shape
+          rest : Option Fault
           rest = told (faults_from ws (t ++ (comma ∷ [])) (drop 1 u))
 
           after : begins comma u ≡ true → eqb field (length ws) ≡ false → Near n rest
@@ -201,7 +200,7 @@ module _ (ws : List ℕ) where
         by_digit true e next = near_digit t done current p h b a u e next
         by_digit false e next = near_close t done current p h b (a ∷ u) e (λ c. next)
 
-pub offset_near : (ws s : List ℕ) (f : Fault) → 1 ≤ length ws → shape_of ws s ≡ Wrong f → f.offset ≤ total ws + length ws + 1
+pub offset_near : (ws s : List ℕ) (f : Fault) → 1 ≤ length ws → shape_of ws s ≡ Some f → f.offset ≤ total ws + length ws + 1
 unfolding shape_of Bounded
 offset_near [] s f h e = absurd (omega arith)
 offset_near (w ∷ ws) s f h e =
@@ -213,6 +212,6 @@ offset_near (w ∷ ws) s f h e =
 pub long_front_decides : (ws s more : List ℕ) → 1 ≤ length ws → total ws + length ws + 1 < length s → shape_of ws (s ++ more) ≡ shape_of ws s
 long_front_decides ws s more h l = by_shape (shape_of ws s) refl
   where
-    by_shape : (x : Shape) → shape_of ws s ≡ x → shape_of ws (s ++ more) ≡ x
-    by_shape Right e = absurd (omega (arith, l, shape_most ws s h (faultless_shape ws s h e)))
-    by_shape (Wrong f) e = front_decides ws s more f e (omega (arith, l, offset_near ws s f h e))
+    by_shape : (x : Option Fault) → shape_of ws s ≡ x → shape_of ws (s ++ more) ≡ x
+    by_shape None e = absurd (omega (arith, l, shape_most ws s h (faultless_shape ws s h e)))
+    by_shape (Some f) e = front_decides ws s more f e (omega (arith, l, offset_near ws s f h e))

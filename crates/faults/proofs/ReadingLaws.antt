@@ -11,16 +11,15 @@ use lib.Dec.{leb, eqb, lit<}
 use lib.ListN.{length, get_or, take, drop, set, replicate, length-append, length-drop, get_or-eq_default}
 use lib.Seq.{length-take-le, take-suc, drop-cons, get_or-drop}
 use borrow.Author.Tests.{eqb-true, eqb-false, leb-true}
+use Rattle.std.specs.Prelude.{Option, Some, None, Result, Ok, Err}
 use Rattle.faults.specs.declared.fault.Fault.{Fault}
 use Rattle.faults.specs.declared.fault.Flaw.TheVariants.{DigitTooMany, LineEnd}
-use Rattle.faults.specs.declared.fault.Shape.{Shape}
-use Rattle.faults.specs.declared.fault.Shape.TheVariants.{Right, Wrong}
 use Rattle.faults.specs.declared.reader.Closing.{Closing}
-use Rattle.faults.specs.declared.reader.Closing.TheVariants.{Next, Last, Flawed}
+use Rattle.faults.specs.declared.reader.Closing.TheVariants.{Next, Last}
 use Rattle.text.specs.Number.{digit_limit, is_digit, value_from, value_of}
 use Rattle.text.specs.Line.{field_limit, comma, lf, values_of, numbers_of}
 use Rattle.faults.specs.Fault.{is_empty, begins, begins_digit, faults_from, told, shape_of}
-use Rattle.faults.specs.Reader.{narrow, placed, wrong_line, line_answer}
+use Rattle.faults.specs.Reader.{narrow, placed, line_answer}
 use Rattle.faults.specs.device.Closing.{flawed_at, ending_of, closes_none, closing_by, closing_of, shape_by}
 use Rattle.checks.proofs.Cases.{not_both}
 use Rattle.checks.proofs.Tests.{both_true, in_range_law}
@@ -63,12 +62,12 @@ placed_more fs f =
 
 -- ---- what closes the last field
 
-abbrev is_last : Closing → Bool
-is_last Next = false
-is_last Last = true
-is_last (Flawed f) = false
+abbrev is_last : Result Closing Fault → Bool
+is_last (Ok Next) = false
+is_last (Ok Last) = true
+is_last (Err f) = false
 
-ending_last : (stray none is_comma last : Bool) (at field : ℕ) (x : Closing) → is_last (closing_by stray none is_comma last at field x) ≡ true → is_last x ≡ true
+ending_last : (stray none is_comma last : Bool) (at field : ℕ) (x : Result Closing Fault) → is_last (closing_by stray none is_comma last at field x) ≡ true → is_last x ≡ true
 unfolding closing_by
 ending_last true none is_comma last at field x e = absurd (false≢true e)
 ending_last false true is_comma last at field x e = absurd (false≢true e)
@@ -89,12 +88,12 @@ ending_two at field (b ∷ c ∷ d ∷ u) e = by_lf (eqb c lf) e
 
 -- ---- what stands before the next field
 
-abbrev is_next : Closing → Bool
-is_next Next = true
-is_next Last = false
-is_next (Flawed f) = false
+abbrev is_next : Result Closing Fault → Bool
+is_next (Ok Next) = true
+is_next (Ok Last) = false
+is_next (Err f) = false
 
-next_comma : (stray none is_comma last : Bool) (at field : ℕ) (x : Closing) → is_next x ≡ false → is_next (closing_by stray none is_comma last at field x) ≡ true
+next_comma : (stray none is_comma last : Bool) (at field : ℕ) (x : Result Closing Fault) → is_next x ≡ false → is_next (closing_by stray none is_comma last at field x) ≡ true
     → (is_comma ≡ true) × (last ≡ false)
 unfolding closing_by
 next_comma true none is_comma last at field x n e = absurd (false≢true e)
@@ -108,7 +107,7 @@ ending_not_next : (at field : ℕ) (u : List ℕ) → is_next (ending_of at fiel
 ending_not_next at field [] = refl
 ending_not_next at field (b ∷ u) = by_tests (begins lf u) (is_empty (drop 1 u))
   where
-    by_tests : (x y : Bool) → is_next (cond x (cond y Last (flawed_at LineEnd (at + 2) field)) (flawed_at LineEnd (at + 1) field)) ≡ false
+    by_tests : (x y : Bool) → is_next (cond x (cond y (Ok Last) (flawed_at LineEnd (at + 2) field)) (flawed_at LineEnd (at + 1) field)) ≡ false
     by_tests true true = refl
     by_tests true false = refl
     by_tests false y = refl
@@ -194,48 +193,48 @@ module _ (ws s : List ℕ) (at k digits value : ℕ) (numbers : List ℕ) (r : F
           left = rw (past inside) (sym (digit_goes_on ws t r.done r.current r.passed d (drop (at + 1) s) e more) ∙ ap (λ (u : List ℕ). told (faults_from ws t u)) (sym (here inside)) ∙ r.left);
         }
 
-    pub read_too_many : digits ≡ get_or ws k 0 → wrong_line (record { flaw = DigitTooMany; offset = at; field = k + 1 }) ≡ line_answer ws s
+    pub read_too_many : digits ≡ get_or ws k 0 → Err (record { flaw = DigitTooMany; offset = at; field = k + 1 }) ≡ line_answer ws s
     read_too_many n =
         let inside = digit_inside e in
         let full : get_or ws (length r.done) 0 ≤ length r.current = rw (r.counted, r.fields) (omega (arith, n)) in
-        let shape : shape_of ws s ≡ Wrong (record { flaw = DigitTooMany; offset = at; field = k + 1 }) =
+        let shape : shape_of ws s ≡ Some (record { flaw = DigitTooMany; offset = at; field = k + 1 }) =
         sym r.left ∙ ap (λ (u : List ℕ). told (faults_from ws t u)) (here inside)
         ∙ digit_too_many_law ws t r.done r.current r.passed d (drop (at + 1) s) e full ∙ rw (at_length, r.fields) in
         rw shape
 
   -- where no digit stands
-  module _ (e : is_digit (get_or s at 0) ≡ false) (c : Closing) (q : c ≡ closing_of (eqb (k + 1) (length ws)) digits at (k + 1) (drop at s)) where
+  module _ (e : is_digit (get_or s at 0) ≡ false) (c : Result Closing Fault) (q : c ≡ closing_of (eqb (k + 1) (length ws)) digits at (k + 1) (drop at s)) where
     no_digit_here : (u : List ℕ) → drop at s ≡ u → begins_digit u ≡ false
     no_digit_here [] f = refl
     no_digit_here (a ∷ u) f = ap (λ (v : List ℕ). is_digit (get_or v 0 0)) (sym f) ∙ rw (get_or-drop at s 0 0, add-zero at) e
 
-    shape_here : (more : Shape) → (begins comma (drop at s) ≡ true → told (faults_from ws (t ++ (comma ∷ [])) (drop 1 (drop at s))) ≡ more)
+    shape_here : (more : Option Fault) → (begins comma (drop at s) ≡ true → told (faults_from ws (t ++ (comma ∷ [])) (drop 1 (drop at s))) ≡ more)
         → shape_of ws s ≡ shape_by c more
     shape_here more f =
         let closes = field_closes ws t r.done r.current r.passed (rw r.fields r.few) (drop at s) (no_digit_here (drop at s) refl) more f in
-        sym r.left ∙ rw (at_length, r.fields, r.counted) at closes ∙ ap (λ (x : Closing). shape_by x more) (sym q)
+        sym r.left ∙ rw (at_length, r.fields, r.counted) at closes ∙ ap (λ (x : Result Closing Fault). shape_by x more) (sym q)
 
-    abbrev rest : Shape
+    abbrev rest : Option Fault
     rest = told (faults_from ws (t ++ (comma ∷ [])) (drop 1 (drop at s)))
 
-    shape_by_law : (x : Closing) → c ≡ x → shape_of ws s ≡ shape_by x rest
-    shape_by_law x e = shape_here rest (λ comma_here. refl) ∙ ap (λ (y : Closing). shape_by y rest) e
+    shape_by_law : (x : Result Closing Fault) → c ≡ x → shape_of ws s ≡ shape_by x rest
+    shape_by_law x e = shape_here rest (λ comma_here. refl) ∙ ap (λ (y : Result Closing Fault). shape_by y rest) e
 
-    pub read_flawed : (f : Fault) → c ≡ Flawed f → wrong_line f ≡ line_answer ws s
-    read_flawed f e = let wrong : shape_of ws s ≡ Wrong f = shape_by_law (Flawed f) e in rw wrong
+    pub read_flawed : (f : Fault) → c ≡ Err f → Err f ≡ line_answer ws s
+    read_flawed f e = let wrong : shape_of ws s ≡ Some f = shape_by_law (Err f) e in rw wrong
 
-    pub read_last : c ≡ Last → record { shape = Right; numbers = set numbers k value } ≡ line_answer ws s
+    pub read_last : c ≡ Ok Last → Ok (set numbers k value) ≡ line_answer ws s
     unfolding numbers_of
     read_last e =
-        let right : shape_of ws s ≡ Right = shape_by_law Last e in
+        let right : shape_of ws s ≡ None = shape_by_law (Ok Last) e in
         let two : length (drop at s) ≡ 2 =
         ending_two at (k + 1) (drop at s) (ending_last (closes_none (drop at s)) (eqb digits 0) (begins comma (drop at s)) (eqb (k + 1) (length ws)) at (k + 1) (ending_of at (k + 1) (drop at s)) (ap is_last (sym q ∙ e))) in
         let end : length s - 2 ≡ at = omega (arith, two, length-drop at s, r.within) in
         let stored : set numbers k value ≡ placed (values_of (r.done ++ (r.current ∷ []))) =
         rw (r.kept, r.worth, ← r.fields) (placed_more r.done r.current) in
-        rw (right, end, r.passed.fields) (ap (λ (ns : List ℕ). record { shape = Right; numbers = ns }) stored)
+        rw (right, end, r.passed.fields) (ap Ok stored)
 
-    pub read_next : c ≡ Next → FieldRead ws s (at + 1) (k + 1) 0 0 (set numbers k value)
+    pub read_next : c ≡ Ok Next → FieldRead ws s (at + 1) (k + 1) 0 0 (set numbers k value)
     read_next e =
         let (comma_here, not_last) = next_comma (closes_none (drop at s)) (eqb digits 0) (begins comma (drop at s)) (eqb (k + 1) (length ws)) at (k + 1) (ending_of at (k + 1) (drop at s)) (ending_not_next at (k + 1) (drop at s)) (ap is_next (sym q ∙ e)) in
         let inside = begins_inside (drop at s) comma_here in
@@ -254,5 +253,5 @@ module _ (ws s : List ℕ) (at k digits value : ℕ) (numbers : List ℕ) (r : F
           worth = sym value_none;
           kept = rw (r.kept, r.worth, ← r.fields) (placed_more r.done r.current);
           passed = rw next (passed_comma r.passed);
-          left = rw next (ap (λ (u : List ℕ). told (faults_from ws (t ++ (comma ∷ [])) u)) (sym (ap (drop 1) (here within))) ∙ sym (shape_by_law Next e));
+          left = rw next (ap (λ (u : List ℕ). told (faults_from ws (t ++ (comma ∷ [])) u)) (sym (ap (drop 1) (here within))) ∙ sym (shape_by_law (Ok Next) e));
         }

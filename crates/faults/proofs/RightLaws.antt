@@ -10,10 +10,9 @@ use lib.Dec.{leb, ltb, eqb, lit<}
 use lib.ListN.{length, get_or, drop, length-append, drop_of_length-le}
 use lib.Seq.{drop-cons}
 use borrow.Author.Tests.{ne_eqb, eqb-true, eqb-false, le-leb, lt-leb, ltb-true, ltb-false}
+use Rattle.std.specs.Prelude.{Option, Some, None, Ok}
 use Rattle.faults.specs.declared.fault.Flaw.TheVariants.{LineEnd}
 use Rattle.faults.specs.declared.fault.Fault.{Fault}
-use Rattle.faults.specs.declared.fault.Shape.{Shape}
-use Rattle.faults.specs.declared.fault.Shape.TheVariants.{Right, Wrong}
 use Rattle.faults.specs.declared.reader.Closing.TheVariants.{Last}
 use Rattle.text.specs.Number.{is_digit, leading}
 use Rattle.text.specs.Line.{comma, cr, lf, is_lf, right_shape}
@@ -85,12 +84,12 @@ scans_end n w ws = by_room (w - n)
     by_room zero = rw (closes_nothing ws 0 refl refl) (and-false (leb 1 (n + 0)))
     by_room (suc m) = rw (closes_nothing ws 0 refl refl) (and-false (leb 1 (n + 0)))
 
-lf_alone : (at field : ℕ) (u : List ℕ) (more : Shape) → is_right (shape_by (ending_of at field (cr ∷ u)) more) ≡ is_lf u
+lf_alone : (at field : ℕ) (u : List ℕ) (more : Option Fault) → is_right (shape_by (ending_of at field (cr ∷ u)) more) ≡ is_lf u
 unfolding is_lf
 lf_alone at field [] more = refl
 lf_alone at field (a ∷ []) more = by_lf (eqb a lf)
   where
-    by_lf : (e : Bool) → is_right (shape_by (cond e Last (flawed_at LineEnd (at + 1) field)) more) ≡ e
+    by_lf : (e : Bool) → is_right (shape_by (cond e (Ok Last) (flawed_at LineEnd (at + 1) field)) more) ≡ e
     by_lf true = refl
     by_lf false = refl
 lf_alone at field (a ∷ b ∷ u) more = rw (ne_eqb (suc (suc (length u))) 1 (λ e. omega arith)) (by_lf (eqb a lf))
@@ -132,9 +131,9 @@ module _ (ws : List ℕ) where
     agrees_at_end : Agrees t done current []
     unfolding closing_by
     agrees_at_end =
-        ap is_right (field_closes ws t done current p h [] refl Right (λ e. absurd (false≢true e))) ∙ by_tests none last ∙ sym (scans_end (length current) (width_at done) (due done))
+        ap is_right (field_closes ws t done current p h [] refl None (λ e. absurd (false≢true e))) ∙ by_tests none last ∙ sym (scans_end (length current) (width_at done) (due done))
       where
-        by_tests : (none last : Bool) → is_right (shape_by (closing_by false none false last (length t) (length done + 1) (flawed_at LineEnd (length t) (length done + 1))) Right) ≡ false
+        by_tests : (none last : Bool) → is_right (shape_by (closing_by false none false last (length t) (length done + 1) (flawed_at LineEnd (length t) (length done + 1))) None) ≡ false
         by_tests true last = refl
         by_tests false true = refl
         by_tests false false = refl
@@ -150,20 +149,20 @@ module _ (ws : List ℕ) where
     agrees_at_other : (b : ℕ) (u : List ℕ) → is_digit b ≡ false → eqb b comma ≡ false → eqb b cr ≡ false → Agrees t done current (b ∷ u)
     unfolding closing_by
     agrees_at_other b u e f g =
-        ap is_right (rw (f, g) at (field_closes ws t done current p h (b ∷ u) e Right (λ q. absurd (not_both (eqb b comma) q f))))
+        ap is_right (rw (f, g) at (field_closes ws t done current p h (b ∷ u) e None (λ q. absurd (not_both (eqb b comma) q f))))
         ∙ sym (scans_here b u e ∙ rw (closes_nothing (due done) b f g) (and-false (leb 1 (length current))))
 
     agrees_at_cr : (u : List ℕ) → Agrees t done current (cr ∷ u)
     unfolding closing_by scans
     agrees_at_cr u =
-        ap is_right (field_closes ws t done current p h (cr ∷ u) refl Right (λ e. absurd (false≢true e)))
+        ap is_right (field_closes ws t done current p h (cr ∷ u) refl None (λ e. absurd (false≢true e)))
         ∙ by_tests none last (some_by none refl) refl ∙ sym (scans_here cr u refl)
       where
         by_tests : (none b : Bool) → leb 1 (length current) ≡ not none → last ≡ b
-            → is_right (shape_by (closing_by false none false b (length t) (length done + 1) (ending_of (length t) (length done + 1) (cr ∷ u))) Right)
+            → is_right (shape_by (closing_by false none false b (length t) (length done + 1) (ending_of (length t) (length done + 1) (cr ∷ u))) None)
             ≡ leb 1 (length current) && (eqb cr (field_closer (due done)) && scans (due done) u)
         by_tests true b x y = rw x
-        by_tests false true x y = lf_alone (length t) (length done + 1) u Right ∙ rw (x, closer_by true y, due_none y)
+        by_tests false true x y = lf_alone (length t) (length done + 1) u None ∙ rw (x, closer_by true y, due_none y)
         by_tests false false x y = rw (x, closer_by false y)
 
     -- a comma: the next field, from its beginning on
@@ -211,25 +210,25 @@ faultless_right [] s h = absurd (omega arith)
 faultless_right (w ∷ ws) s h =
     agrees (w ∷ ws) s [] [] [] passed_nothing h ∙ scans_first w ws s ∙ scan_right (w ∷ ws) s h
 
-right_is : (x : Shape) → is_right x ≡ true → x ≡ Right
-right_is Right e = refl
-right_is (Wrong f) e = absurd (false≢true e)
+right_is : (x : Option Fault) → is_right x ≡ true → x ≡ None
+right_is None e = refl
+right_is (Some f) e = absurd (false≢true e)
 
 module _ (ws s : List ℕ) (h : 1 ≤ length ws) where
-  pub right_faultless : right_shape ws s ≡ true → shape_of ws s ≡ Right
+  pub right_faultless : right_shape ws s ≡ true → shape_of ws s ≡ None
   right_faultless e = right_is (shape_of ws s) (faultless_right ws s h ∙ e)
 
-  pub faultless_shape : shape_of ws s ≡ Right → right_shape ws s ≡ true
+  pub faultless_shape : shape_of ws s ≡ None → right_shape ws s ≡ true
   faultless_shape e = sym (faultless_right ws s h) ∙ ap is_right e
 
 -- a line that has a fault
 pub record Faulty (ws s : List ℕ) : Type 0 where
   pub fault : Fault
-  pub shape : shape_of ws s ≡ Wrong fault
+  pub shape : shape_of ws s ≡ Some fault
 
 pub wrong_faulty : (ws s : List ℕ) → 1 ≤ length ws → right_shape ws s ≡ false → Faulty ws s
 wrong_faulty ws s h e = by_shape (shape_of ws s) refl
   where
-    by_shape : (x : Shape) → shape_of ws s ≡ x → Faulty ws s
-    by_shape Right q = absurd (not_both (right_shape ws s) (faultless_shape ws s h q) e)
-    by_shape (Wrong f) q = record { fault = f; shape = q }
+    by_shape : (x : Option Fault) → shape_of ws s ≡ x → Faulty ws s
+    by_shape None q = absurd (not_both (right_shape ws s) (faultless_shape ws s h q) e)
+    by_shape (Some f) q = record { fault = f; shape = q }

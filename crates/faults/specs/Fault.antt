@@ -1,12 +1,10 @@
 -- The faults of a line of numbers, each with its place, and the one that is told (02, E5). An offset parts the line into the
 -- bytes `before` it and those `after` it, the first of which stands at it; "The end stands at the row's length": all bytes are
 -- before it. A flaw is looked for at every offset by itself, also where it only follows from an earlier one.
-use Rattle.std.specs.Prelude.{Bool, true, false, cond, not, ◌&&◌, ◌||◌, List, [], ◌∷◌, ◌++◌, ℕ, ◌+◌, leb, ltb, eqb, length, get_or}
+use Rattle.std.specs.Prelude.{Bool, true, false, cond, not, ◌&&◌, ◌||◌, List, [], ◌∷◌, ◌++◌, Option, Some, None, ℕ, ◌+◌, leb, ltb, eqb, length, get_or}
 use Rattle.faults.specs.declared.fault.Flaw.{Flaw}
 use Rattle.faults.specs.declared.fault.Flaw.TheVariants.{NoDigit, DigitTooMany, StrayByte, FieldCount, LineEnd}
 use Rattle.faults.specs.declared.fault.Fault.{Fault}
-use Rattle.faults.specs.declared.fault.Shape.{Shape}
-use Rattle.faults.specs.declared.fault.Shape.TheVariants.{Right, Wrong}
 use Rattle.text.specs.Number.{is_digit}
 use Rattle.text.specs.Line.{comma, cr, lf, is_lf, fields_in}
 
@@ -126,14 +124,14 @@ unfoldable pub lowest_of : Fault → List Fault → Fault
 lowest_of f [] = f
 lowest_of f (g ∷ gs) = lowest_of (cond (ltb g.offset f.offset) g f) gs
 
-unfoldable pub told : List Fault → Shape
-told [] = Right
-told (f ∷ fs) = Wrong (lowest_of f fs)
+unfoldable pub told : List Fault → Option Fault
+told [] = None
+told (f ∷ fs) = Some (lowest_of f fs)
 
--- THE SHAPE OF A LINE that is due fields of these widths
-unfoldable pub shape_of : List ℕ → List ℕ → Shape
+-- THE SHAPE OF A LINE that is due fields of these widths: its fault, or none where it is right
+unfoldable pub shape_of : List ℕ → List ℕ → Option Fault
 shape_of ws s = told (faults_from ws [] s)
 
-abbrev pub is_right : Shape → Bool
-is_right Right = true
-is_right (Wrong f) = false
+abbrev pub is_right : Option Fault → Bool
+is_right None = true
+is_right (Some f) = false

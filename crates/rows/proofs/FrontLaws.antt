@@ -6,8 +6,8 @@ use mathlib.Core.List.{List, ◌++◌}
 use Prim.Native.Nat.{ℕ, ◌+◌, ◌-◌, ◌≤◌, ◌<◌}
 use native.Mathlib.Omega.{arith}
 use lib.ListN.{length, length-append, get_or-append}
+use Rattle.std.specs.Prelude.{Some, Err}
 use Rattle.faults.specs.declared.fault.Fault.{Fault}
-use Rattle.faults.specs.declared.fault.Shape.TheVariants.{Wrong}
 use Rattle.faults.specs.Fault.{shape_of}
 use Rattle.text.specs.Line.{right_shape}
 use Rattle.text.proofs.ScanLaws.{total}
@@ -15,8 +15,6 @@ use Rattle.text.proofs.ShapeLaws.{shape_most}
 use Rattle.faults.proofs.RightLaws.{Faulty, wrong_faulty}
 use Rattle.faults.proofs.PlaceLaws.{offset_near, long_front_decides}
 use Rattle.checks.proofs.Cases.{not_true}
-use Rattle.rows.specs.declared.row.RowRead.TheVariants as row
-use Rattle.rows.specs.declared.settings_line.SettingsRead.TheVariants as settings_line
 use Rattle.rows.specs.Refusal.{misshapen}
 use Rattle.rows.specs.Row.{row_answer}
 use Rattle.rows.specs.Widths.{row_widths, settings_widths}
@@ -45,7 +43,7 @@ module _ (s more : List ℕ) (long : 45 < length s) where
       )
 
   module _ (ws : List ℕ) (some : 1 ≤ length ws) (l : total ws + length ws + 1 < length s) (x : Faulty ws s) where
-    front_shape : shape_of ws (s ++ more) ≡ Wrong x.fault
+    front_shape : shape_of ws (s ++ more) ≡ Some x.fault
     front_shape = long_front_decides ws s more some l ∙ x.shape
 
     front_refusal : misshapen (length ws) (s ++ more) x.fault ≡ misshapen (length ws) s x.fault
@@ -55,12 +53,12 @@ module _ (s more : List ℕ) (long : 45 < length s) where
   row_front last =
       let x = long_faulty row_widths s (omega arith) (omega (arith, long)) in
       row_misshapen (s ++ more) last x.fault (front_shape row_widths (omega arith) (omega (arith, long)) x)
-      ∙ ap row.Refused (front_refusal row_widths (omega arith) (omega (arith, long)) x)
+      ∙ ap Err (front_refusal row_widths (omega arith) (omega (arith, long)) x)
       ∙ sym (row_misshapen s last x.fault x.shape)
 
   pub settings_front : settings_line_answer (s ++ more) ≡ settings_line_answer s
   settings_front =
       let x = long_faulty settings_widths s (omega arith) (omega (arith, long)) in
       settings_misshapen (s ++ more) x.fault (front_shape settings_widths (omega arith) (omega (arith, long)) x)
-      ∙ ap settings_line.Refused (front_refusal settings_widths (omega arith) (omega (arith, long)) x)
+      ∙ ap Err (front_refusal settings_widths (omega arith) (omega (arith, long)) x)
       ∙ sym (settings_misshapen s x.fault x.shape)

@@ -1,21 +1,22 @@
 -- For the reader of a row at the front: a turn of the loop over digits, a field, the six fields, and the answer.
 -- Assumes nothing.
 use mathlib.Core.Path.{◌≡◌, refl, sym, ap, ◌∙◌}
-use mathlib.Core.Bool.{true, false, ◌&&◌}
+use mathlib.Core.Bool.{true, false, cond, ◌&&◌, and-false}
 use mathlib.Core.List.{List, []}
 use Prim.Native.Nat.{ℕ, zero, suc, ◌+◌, ◌-◌, ◌*◌, ◌^◌, ◌≤◌, ◌<◌}
 use native.Mathlib.Omega.{arith}
 use lib.Dec.{leb, ltb, eqb, lit<}
 use lib.ListN.{length, get_or, drop}
 use lib.Seq.{drop-cons}
-use Rattle.text.specs.Line.{comma, cr}
 use Rattle.text.specs.declared.number.Digits.{Digits}
 use Rattle.text.specs.Number.{is_digit, leading, value_from, value_of, digits_from}
-use Rattle.checks.proofs.Tests.{in_range_law, leb_iff}
-use Rattle.text.proofs.DigitLaws.{leading_length, value_small, one_more_law, digits_full, digits_more, digits_count}
+use borrow.Author.Tests.{eq-eqb, ne_eqb, eqb-true, lt-ltb, le-ltb}
+use Rattle.std.specs.Prelude.{Some, None}
+use Rattle.std.proofs.lemmas.Option.{cond_some}
+use Rattle.checks.proofs.Tests.{both_true, in_range_law, leb_iff}
+use Rattle.text.proofs.DigitLaws.{leading_length, one_more_law, digits_full, digits_more, digits_count}
 use Rattle.rows.specs.declared.front.Field.{Field}
-use Rattle.rows.specs.declared.front.Front.{Front}
-use Rattle.rows.specs.device.Front.{front_room, field_from, fields_of, fields_from, no_front, front_answer}
+use Rattle.rows.specs.device.Front.{field_from}
 
 -- the digits from `at` to `end` give the value, and with what is left the whole
 pub record Reading (s : List ℕ) (at width end value : ℕ) : Type 0 where
@@ -51,10 +52,10 @@ module _ (s : List ℕ) (at width end value : ℕ) (r : Reading s at width end v
 
   -- ---- at the end
 
-  abbrev here : Digits
+  abbrev pub here : Digits
   here = record { count = end - at; value = value }
 
-  abbrev Found : Type 0
+  abbrev pub Found : Type 0
   Found = here ≡ digits_from 0 0 (leading width (drop at s))
 
   pub found_full : at + width ≤ end → Found
@@ -68,53 +69,48 @@ module _ (s : List ℕ) (at width end value : ℕ) (r : Reading s at width end v
       left ∙ r.whole
 
   -- what the reader answers then
-  pub field_read : (closer : ℕ) → Found → record { closed = ltb at end && eqb (get_or s end 0) closer; value = value; next = end + 1 } ≡ field_from width closer s at
-  unfolding field_from
-  field_read closer found =
-      let ds : List ℕ = leading width (drop at s) in
-      let count : length ds ≡ end - at = sym (digits_count here width (drop at s) found) in
-      let number : value_of ds ≡ value = sym (ap (λ (d : Digits). d.value) found) in
-      let place : at + (end - at) ≡ end = omega (arith, r.begun) in
-      let some : ltb at end ≡ leb 1 (end - at) = leb_iff (suc at) end 1 (end - at) (λ h. omega (arith, h)) (λ h. omega (arith, h)) in
-      rw (count, number, place, some)
+  module _ (closer : ℕ) (found : Found) where
+    field_by : cond (ltb at end && eqb (get_or s end 0) closer) (Some (record { value = value; next = end + 1 })) None ≡ field_from width closer s at
+    unfolding field_from
+    field_by =
+        let ds : List ℕ = leading width (drop at s) in
+        let count : length ds ≡ end - at = sym (digits_count here width (drop at s) found) in
+        let number : value_of ds ≡ value = sym (ap (λ (d : Digits). d.value) found) in
+        let place : at + (end - at) ≡ end = omega (arith, r.begun) in
+        let some : ltb at end ≡ leb 1 (end - at) = leb_iff (suc at) end 1 (end - at) (λ h. omega (arith, h)) (λ h. omega (arith, h)) in
+        rw (count, number, place, some)
+
+    pub field_read : (end ≡ at → ⊥) → get_or s end 0 ≡ closer → Some (record { value = value; next = end + 1 }) ≡ field_from width closer s at
+    field_read n e = rw (lt-ltb at end (omega (arith, n, r.begun)), eq-eqb (get_or s end 0) closer e) at field_by
+
+    pub field_empty : end ≡ at → None ≡ field_from width closer s at
+    field_empty e = rw (le-ltb at end (omega (arith, e))) at field_by
+
+    pub field_open : (get_or s end 0 ≡ closer → ⊥) → None ≡ field_from width closer s at
+    field_open n = rw (ne_eqb (get_or s end 0) closer n, and-false (ltb at end)) at field_by
 
 -- ---- how far it comes, and how large its number is
 
-pub field_near : (w closer : ℕ) (s : List ℕ) (at : ℕ) → (field_from w closer s at).next ≤ at + w + 1
-unfolding field_from
-field_near w closer s at = omega (arith, leading_length w (drop at s))
+-- a field that stands there: its digits, and the closer after them
+pub record FieldStands (w closer : ℕ) (s : List ℕ) (at : ℕ) (f : Field) : Type 0 where
+  pub some : leb 1 (length (leading w (drop at s))) ≡ true
+  pub closed : get_or s (at + length (leading w (drop at s))) 0 ≡ closer
+  pub value : f.value ≡ value_of (leading w (drop at s))
+  pub next : f.next ≡ at + length (leading w (drop at s)) + 1
 
--- all clauses of the reader's contract
-pub field_told : (r : Field) (w closer : ℕ) (s : List ℕ) (at : ℕ) → r ≡ field_from w closer s at
-    → (r ≡ field_from w closer s at) × ((r.next ≤ at + w + 1) × (r.value < 10 ^ w))
-unfolding field_from
-field_told r w closer s at e = (e, (rw e (field_near w closer s at), rw e (value_small w (drop at s))))
+module _ (w closer : ℕ) (s : List ℕ) (at : ℕ) where
+  pub field_stands : (f : Field) → field_from w closer s at ≡ Some f → FieldStands w closer s at f
+  unfolding field_from
+  field_stands f e =
+      let ds : List ℕ = leading w (drop at s) in
+      let (tests, same) = cond_some (leb 1 (length ds) && eqb (get_or s (at + length ds) 0) closer) (record { value = value_of ds; next = at + length ds + 1 }) f e in
+      let (some, closed) = both_true (leb 1 (length ds)) (eqb (get_or s (at + length ds) 0) closer) tests in
+      record {
+        some = some;
+        closed = eqb-true (get_or s (at + length ds) 0) closer closed;
+        value = sym (ap (λ (g : Field). g.value) same);
+        next = sym (ap (λ (g : Field). g.next) same);
+      }
 
--- ---- the six fields
-
-pub fields_read : (s : List ℕ) (at : ℕ) (number stamp l1 l2 l3 block : Field)
-    → number ≡ field_from 6 comma s at
-    → stamp ≡ field_from 10 comma s number.next
-    → l1 ≡ field_from 7 comma s stamp.next
-    → l2 ≡ field_from 7 comma s l1.next
-    → l3 ≡ field_from 7 comma s l2.next
-    → block ≡ field_from 1 cr s l3.next
-    → fields_of s number stamp l1 l2 l3 block ≡ fields_from s at
-unfolding fields_from
-fields_read s at number stamp l1 l2 l3 block e₁ e₂ e₃ e₄ e₅ e₆ = rw (e₆, e₅, e₄, e₃, e₂, e₁)
-
--- ---- the answer, by the tests
-
-module _ (s : List ℕ) (at last : ℕ) where
-  pub front_late : leb (at + front_room) (length s) ≡ false → no_front at ≡ front_answer s at last
-  unfolding front_answer
-  front_late h = rw h
-
-  module _ (room : leb (at + front_room) (length s) ≡ true) (x : Front) (e : x ≡ fields_from s at) where
-    pub front_other : x.right && eqb x.row.number (last + 1) ≡ false → no_front at ≡ front_answer s at last
-    unfolding front_answer
-    front_other h = rw (room, ← e, h)
-
-    pub front_next : x.right && eqb x.row.number (last + 1) ≡ true → x ≡ front_answer s at last
-    unfolding front_answer
-    front_next h = rw (room, ← e, h)
+  pub field_near : (f : Field) → field_from w closer s at ≡ Some f → f.next ≤ at + w + 1
+  field_near f e = omega (arith, (field_stands f e).next, leading_length w (drop at s))

@@ -5,3 +5,4 @@ pub mod SettingsLineLaws
 pub mod FrontLaws
 pub mod FrontReading
 pub mod FrontRowLaws
+pub mod MappedErr

@@ -1,14 +1,12 @@
 -- What a line is refused with (02, E5): "The answer carries the byte offset in the row and the field".
-use Rattle.std.specs.Prelude.{Bool, cond, ◌&&◌, List, ℕ, ◌-◌, eqb, length, get_or}
+use Rattle.std.specs.Prelude.{Bool, cond, ◌&&◌, List, Option, Some, None, Result, Ok, Err, ℕ, ◌-◌, eqb, length, get_or}
 use Rattle.faults.specs.declared.fault.Flaw.{Flaw}
 use Rattle.faults.specs.declared.fault.Flaw.TheVariants.{NoDigit, DigitTooMany, StrayByte, FieldCount, LineEnd}
 use Rattle.faults.specs.declared.fault.Fault.{Fault}
-use Rattle.faults.specs.declared.fault.Shape.{Shape}
-use Rattle.faults.specs.declared.fault.Shape.TheVariants.{Right, Wrong}
 use Rattle.text.specs.Number.{is_digit}
 use Rattle.text.specs.Line.{lf, right_shape, numbers_of}
 use Rattle.rows.specs.declared.refusal.Hint.{Hint}
-use Rattle.rows.specs.declared.refusal.Hint.TheVariants as hint
+use Rattle.rows.specs.declared.refusal.Hint.TheVariants.{LineFeed, ByteOrderMark, Semicolon, DataRow}
 use Rattle.rows.specs.declared.refusal.Refusal.{Refusal}
 use Rattle.rows.specs.Refusals.{no_digit, digit_too_many, stray_byte, field_count, line_end}
 use Rattle.rows.specs.Widths.{row_widths, settings_widths}
@@ -38,25 +36,38 @@ abbrev pub row_for_settings : ℕ → List ℕ → Bool
 row_for_settings fields s = eqb fields (length settings_widths) && (right_shape row_widths s && eqb (get_or (numbers_of s) 0 0) 1)
 
 -- for a person, beside the place in a line of so many fields
-abbrev pub hint_of : ℕ → List ℕ → Fault → Hint
+abbrev pub hint_of : ℕ → List ℕ → Fault → Option Hint
 hint_of fields s f =
-    cond (lf_for_cr_lf s f) hint.LineFeed
-    (cond (has_mark s) hint.ByteOrderMark
-    (cond (semicolon_at s f) hint.Semicolon
-    (cond (row_for_settings fields s) hint.DataRow hint.None)))
+    cond (lf_for_cr_lf s f) (Some LineFeed)
+    (cond (has_mark s) (Some ByteOrderMark)
+    (cond (semicolon_at s f) (Some Semicolon)
+    (cond (row_for_settings fields s) (Some DataRow) None)))
 
 abbrev pub misshapen : ℕ → List ℕ → Fault → Refusal
-misshapen fields s f = record { number = flaw_number f.flaw; offset = f.offset; field = f.field; hint = hint_of fields s f }
+misshapen fields s f = record {
+  number = flaw_number f.flaw;
+  place = Some (record { offset = f.offset; field = f.field });
+  hint = hint_of fields s f;
+}
 
 -- any other refusal tells no place
 abbrev pub without_place : ℕ → Refusal
-without_place n = record { number = n; offset = 0; field = 0; hint = hint.None }
+without_place n = record { number = n; place = None; hint = None }
 
 -- "0 means accepted"
 abbrev pub accepted : Refusal
 accepted = without_place 0
 
 -- by its shape, "a line's numbers are looked at only if its shape is right", and what its numbers are refused with
-abbrev pub line_refusal : ℕ → Shape → List ℕ → ℕ → Refusal
-line_refusal fields Right s n = without_place n
-line_refusal fields (Wrong f) s n = misshapen fields s f
+abbrev pub line_refusal : ℕ → Option Fault → List ℕ → ℕ → Refusal
+line_refusal fields None s n = without_place n
+line_refusal fields (Some f) s n = misshapen fields s f
+
+-- what a line answers that is refused so: what it gives, where it is accepted
+abbrev pub answer_by : {A : Type 0} → Refusal → A → Result A Refusal
+answer_by x given = cond (eqb x.number 0) (Ok given) (Err x)
+
+-- the paper's numbers for each case of an answer
+abbrev pub refused_with : {A : Type 0} → Result A Refusal → Refusal
+refused_with (Ok given) = accepted
+refused_with (Err x) = x

@@ -1,11 +1,9 @@
 -- The settings line (01, 'Rows and the replay program').
-use Rattle.std.specs.Prelude.{cond, List, ℕ, eqb, length, get_or}
+use Rattle.std.specs.Prelude.{List, Result, ℕ, length, get_or}
 use Rattle.phase.specs.declared.settings.Settings.{Settings}
 use Rattle.phase.specs.Settings.{settings_of, settings_refusal}
-use Rattle.rows.specs.declared.settings_line.SettingsRead.{SettingsRead}
-use Rattle.rows.specs.declared.settings_line.SettingsRead.TheVariants.{Accepted, Refused}
 use Rattle.rows.specs.declared.refusal.Refusal.{Refusal}
-use Rattle.rows.specs.Refusal.{accepted, line_refusal}
+use Rattle.rows.specs.Refusal.{line_refusal, answer_by, refused_with}
 use Rattle.rows.specs.Widths.{settings_widths}
 use Rattle.text.specs.Line.{numbers_of}
 use Rattle.faults.specs.Fault.{shape_of}
@@ -20,11 +18,9 @@ unfoldable pub settings_line_refusal : List ℕ → Refusal
 settings_line_refusal s = line_refusal (length settings_widths) (shape_of settings_widths s) s (settings_refusal (settings_in (numbers_of s)))
 
 -- what the reader of the settings line answers
-unfoldable pub settings_line_answer : List ℕ → SettingsRead
-settings_line_answer s =
-    cond (eqb (settings_line_refusal s).number 0) (Accepted (settings_in (numbers_of s))) (Refused (settings_line_refusal s))
+unfoldable pub settings_line_answer : List ℕ → Result Settings Refusal
+settings_line_answer s = answer_by (settings_line_refusal s) (settings_in (numbers_of s))
 
 -- the paper's numbers for each case of the answer
-abbrev pub settings_line_numbers : SettingsRead → Refusal
-settings_line_numbers (Accepted settings) = accepted
-settings_line_numbers (Refused x) = x
+abbrev pub settings_line_numbers : Result Settings Refusal → Refusal
+settings_line_numbers x = refused_with x

@@ -2,6 +2,7 @@
 #![tactic(auto)]
 
 mod front;
+mod numbered;
 mod refusal;
 pub mod refusals;
 mod row;
@@ -9,6 +10,7 @@ mod settings_line;
 mod widths;
 
 pub use front::{Front, read_front};
-pub use refusal::{Hint, Refusal, refuse, refuse_shape};
-pub use row::{Row, RowRead, read_row};
-pub use settings_line::{SettingsRead, read_settings_line};
+pub use numbered::read_numbered;
+pub use refusal::{Hint, Place, Refusal, refuse, refuse_shape};
+pub use row::{Row, read_row};
+pub use settings_line::read_settings_line;

@@ -3,30 +3,36 @@ ghost use Rattle.std.specs.Prelude.{◌≡◌};
 ghost use Rattle.rows.specs.Refusal.{flaw_number, has_mark, lf_for_cr_lf, semicolon_at, row_for_settings, hint_of, misshapen, without_place};
 
 use crate::refusals::{DIGIT_TOO_MANY, FIELD_COUNT, LINE_END, NO_DIGIT, STRAY_BYTE};
-use crate::widths::{SETTINGS_FIELDS, read_as_row};
-use faults::fault::{Fault, Flaw, Shape};
-use faults::reader::{byte_at, is_digit};
+use crate::widths::{ROW_WIDTHS, SETTINGS_WIDTHS};
+use faults::fault::{Fault, Flaw};
+use faults::reader::{byte_at, is_digit, read_line};
 
 // What a person is told beside the place: that LF stands there, where CR LF is due; that the line begins with a byte order mark; that a
 // semicolon stands there; or that the line may be data row 1, where the settings line is due.
-#[derive(Clone, Copy)]
+#[derive(Clone, Copy, PartialEq, Eq)]
 pub enum Hint {
-    None,
     LineFeed,
     ByteOrderMark,
     Semicolon,
     DataRow,
 }
 
-// The number; of a wrong shape the byte offset in the line and the field, counted from 1, else 0 and 0.
-#[derive(Clone, Copy)]
-pub struct Refusal {
-    pub number: u32,
+// A byte offset in the line, and its field, counted from 1.
+#[derive(Clone, Copy, PartialEq, Eq)]
+pub struct Place {
     pub offset: usize,
     pub field: usize,
-    pub hint: Hint,
 }
 
+// The number; of a wrong shape the place too, and what a person may be told of it.
+#[derive(Clone, Copy, PartialEq, Eq)]
+pub struct Refusal {
+    pub number: u32,
+    pub place: Option<Place>,
+    pub hint: Option<Hint>,
+}
+
+// A match and no `From`: the flaws are another crate's, which knows no refusal numbers.
 fn flaw_number(flaw: Flaw) -> u32
     ensures { result ≡ flaw_number flaw }
 {
@@ -42,18 +48,16 @@ fn flaw_number(flaw: Flaw) -> u32
 fn has_mark(line: &[u8]) -> bool
     ensures { result ≡ has_mark line.now }
 {
-    (byte_at(line, 0) == 0xEF) & (byte_at(line, 1) == 0xBB) & (byte_at(line, 2) == 0xBF)
+    line.starts_with(&[0xEF, 0xBB, 0xBF])
 }
 
 // Whether LF stands at the fault, right after a digit.
 fn is_lf_for_cr_lf(line: &[u8], fault: Fault) -> bool
     ensures { result ≡ lf_for_cr_lf line.now fault }
 {
-    if fault.offset == 0 {
-        return false;
-    }
-    let before = byte_at(line, fault.offset - 1);
-    (byte_at(line, fault.offset) == b'\n') & is_digit(before)
+    0 < fault.offset
+        && byte_at(line, fault.offset) == b'\n'
+        && is_digit(byte_at(line, fault.offset - 1))
 }
 
 fn is_semicolon(line: &[u8], fault: Fault) -> bool
@@ -65,50 +69,40 @@ fn is_semicolon(line: &[u8], fault: Fault) -> bool
 fn is_row_for_settings(line: &[u8], fields: usize) -> bool
     ensures { result ≡ row_for_settings fields line.now }
 {
-    if fields != SETTINGS_FIELDS {
-        return false;
-    }
-    let row = read_as_row(line);
-    let shape = row.shape;
-    match shape {
-        Shape::Right => {
-            let n = row.numbers;
-            n[0] == 1
+    fields == SETTINGS_WIDTHS.len()
+        && match read_line(line, &ROW_WIDTHS) {
+            Ok(n) => n[0] == 1,
+            Err(_) => false,
         }
-        Shape::Wrong(_) => false,
-    }
 }
 
-fn hint_at(line: &[u8], fault: Fault, fields: usize) -> Hint
+fn hint_at(line: &[u8], fault: Fault, fields: usize) -> Option<Hint>
     ensures { result ≡ hint_of fields line.now fault }
 {
     if is_lf_for_cr_lf(line, fault) {
-        return Hint::LineFeed;
+        Some(Hint::LineFeed)
+    } else if has_mark(line) {
+        Some(Hint::ByteOrderMark)
+    } else if is_semicolon(line, fault) {
+        Some(Hint::Semicolon)
+    } else if is_row_for_settings(line, fields) {
+        Some(Hint::DataRow)
+    } else {
+        None
     }
-    if has_mark(line) {
-        return Hint::ByteOrderMark;
-    }
-    if is_semicolon(line, fault) {
-        return Hint::Semicolon;
-    }
-    if is_row_for_settings(line, fields) {
-        return Hint::DataRow;
-    }
-    Hint::None
 }
 
 // A line of wrong shape, which is due so many fields.
 pub fn refuse_shape(line: &[u8], fault: Fault, fields: usize) -> Refusal
     ensures { result ≡ misshapen fields line.now fault }
 {
-    let flaw = fault.flaw;
-    let number = flaw_number(flaw);
-    let hint = hint_at(line, fault, fields);
     Refusal {
-        number,
-        offset: fault.offset,
-        field: fault.field,
-        hint,
+        number: flaw_number(fault.flaw),
+        place: Some(Place {
+            offset: fault.offset,
+            field: fault.field,
+        }),
+        hint: hint_at(line, fault, fields),
     }
 }
 
@@ -118,8 +112,7 @@ pub fn refuse(number: u32) -> Refusal
 {
     Refusal {
         number,
-        offset: 0,
-        field: 0,
-        hint: Hint::None,
+        place: None,
+        hint: None,
     }
 }

@@ -3,29 +3,20 @@ ghost use Rattle.std.specs.Prelude.{◌≡◌};
 ghost use Rattle.rows.specs.SettingsLine.{settings_line_refusal, settings_line_answer, settings_line_numbers};
 
 use crate::refusal::{Refusal, refuse, refuse_shape};
-use crate::widths::SETTINGS_FIELDS;
-use faults::fault::Shape;
+use crate::widths::SETTINGS_WIDTHS;
 use faults::reader::read_line;
 use phase::Settings;
 
-#[derive(Clone, Copy)]
-pub enum SettingsRead {
-    Accepted(Settings),
-    Refused(Refusal),
-}
-
 // Reads the settings line that these bytes are.
-pub fn read_settings_line(line: &[u8]) -> SettingsRead
+pub fn read_settings_line(line: &[u8]) -> Result<Settings, Refusal>
     ensures answer { result ≡ settings_line_answer line.now }
     ensures numbers { settings_line_numbers result ≡ settings_line_refusal line.now }
 {
-    let widths = [5usize, 5, 5, 5, 5, 5, 5];
-    let l = read_line(line, &widths);
-    let shape = l.shape;
-    if let Shape::Wrong(fault) = shape {
-        return SettingsRead::Refused(refuse_shape(line, fault, SETTINGS_FIELDS));
-    }
-    let n = l.numbers;
+    let n = read_line(line, &SETTINGS_WIDTHS).map_err(|fault| refuse_shape(
+        line,
+        fault,
+        SETTINGS_WIDTHS.len(),
+    ))?;
     let settings = Settings {
         operation: n[0] as u32,
         start_current: n[1] as u32,
@@ -37,7 +28,7 @@ pub fn read_settings_line(line: &[u8]) -> SettingsRead
     };
     let refusal = settings.check();
     if refusal != 0 {
-        return SettingsRead::Refused(refuse(refusal));
+        return Err(refuse(refusal));
     }
-    SettingsRead::Accepted(settings)
+    Ok(settings)
 }
