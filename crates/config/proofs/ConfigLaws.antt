@@ -4,13 +4,14 @@ use mathlib.Core.Path.{◌≡◌, refl, sym, ap, ◌∙◌}
 use mathlib.Core.Bool.{Bool, true, false, cond, ◌&&◌, and-false}
 use mathlib.Core.List.{List, [], ◌∷◌, ◌++◌}
 use mathlib.Core.Logic.{⊎_elim}
-use Prim.Native.Nat.{ℕ, zero, suc, ◌+◌, ◌-◌, ◌≤◌, ◌<◌}
-use native.Mathlib.Nat.{le_of_suc-le-suc, not-suc-le-zero, eq-or-lt_of_le}
+use Prim.Native.Nat.{ℕ, suc, ◌+◌, ◌-◌, ◌≤◌, ◌<◌}
+use native.Mathlib.Nat.{eq-or-lt_of_le}
 use native.Mathlib.Omega.{arith}
-use lib.Dec.{eqb, leb, ltb}
-use lib.ListN.{length, get_or, drop, length-append, length-take}
+use lib.Dec.{leb, ltb}
+use Rattle.std.specs.Prelude.{Option, Some, None, is_none, Result}
+use lib.ListN.{length, drop, length-append, length-take}
 use lib.Seq.{drop-cons}
-use borrow.Author.Tests.{lt-leb, lt-ltb, le-ltb, ltb-true, ltb-false, eqb-false, ne_eqb}
+use borrow.Author.Tests.{lt-leb, lt-ltb, le-ltb, ltb-true, ltb-false}
 use Rattle.text.specs.Line.{ends_cr_lf}
 use Rattle.text.specs.Lines.{lines_from, lines_of, Cutting, joined}
 use Rattle.text.specs.Cutter.{held_line, cutter_after}
@@ -19,69 +20,40 @@ use Rattle.text.specs.declared.lines.Closer.TheVariants.{CrLf}
 use Rattle.fields.specs.declared.field.Field.{Field}
 use Rattle.config.specs.declared.reader.Reading.{Reading}
 use Rattle.config.specs.declared.reader.Reader.{Reader}
-use Rattle.config.specs.declared.reader.ConfigRead.{ConfigRead}
+use Rattle.config.specs.declared.reader.Fault.{Fault}
 use Rattle.config.specs.Refusals.{multiplier}
 use Rattle.config.specs.Line.{longest_line, is_right}
-use Rattle.config.specs.device.Layout.{numbers_of, numbers}
 use Rattle.config.specs.Shape.{Shape, shapes, line_count, no_shape, shape_at}
 use Rattle.config.specs.Config.{refused_at, last_after, read_from, config_of}
 use Rattle.config.specs.Reader.{is_due, is_right_at, number_due, passed, refused, after_line_if, after_line, after_lines, malformed, malformed_if}
-use Rattle.config.specs.Reader.{line_limit, fresh_reader, cut_portion, taken, taken_if, take_answer, taken_all, last_reading, end_refusal, answer_of, end_answer}
+use Rattle.config.specs.Reader.{line_limit, fresh_reader, cut_portion, taken, taken_if, take_answer, taken_all, last_reading, end_refusal, answer_by, answer_of, end_answer}
 use Rattle.checks.proofs.Cases.{by_cond}
-use Rattle.checks.proofs.Tests.{both_true, in_range_law, is_in_range, above_range}
+use Rattle.checks.proofs.Tests.{is_in_range, above_range}
 use Rattle.text.proofs.CutLaws.{lines_cons, lines_nil, last_nothing, last_line_law, joined_none, joined_more}
 use Rattle.text.proofs.CuttingLaws.{cut_lines, all_read, long_held}
-use Rattle.config.proofs.LineLaws.{number_of_shape}
 use Rattle.text.proofs.KeptLaws.{empty_holds, line_kept, still_holds}
-
--- ---- no line has the number 0
-
-abbrev none_zero : List ℕ → Bool
-none_zero [] = true
-none_zero (x ∷ xs) = ltb 0 x && none_zero xs
-
-some_at : (xs : List ℕ) → none_zero xs ≡ true → (n : ℕ) → n < length xs → 0 < get_or xs n 0
-some_at [] e n h = absurd (not-suc-le-zero h)
-some_at (x ∷ xs) e zero h = ltb-true 0 x (both_true (ltb 0 x) (none_zero xs) e).0
-some_at (x ∷ xs) e (suc n) h = some_at xs (both_true (ltb 0 x) (none_zero xs) e).1 n (le_of_suc-le-suc h)
-
-number_some : (line : ℕ) → 0 < number_due line
-unfolding numbers_of
-number_some line =
-    by_cond (λ (n : ℕ). 0 < n) (is_due line) (shape_at (line - 1)).number multiplier
-    (λ e.
-    let (low, high) = in_range_law 1 line_count line e in
-    rw (← number_of_shape shapes (line - 1)) (some_at numbers refl (line - 1) (omega (arith, low, high))))
-    (λ e. omega arith)
 
 -- ---- what was refused stays
 
-refused_stays : (r : Reading) (ls : List (List ℕ)) → 0 < r.refusal → after_lines r ls ≡ r
+refused_stays : (r : Reading) (ls : List (List ℕ)) → is_none r.refusal ≡ false → after_lines r ls ≡ r
 unfolding after_lines after_line_if
 refused_stays r [] h = refl
-refused_stays r (l ∷ ls) h =
-    ap (λ (t : Bool). after_lines (after_line_if t r l) ls) (ne_eqb r.refusal 0 (λ e. omega arith)) ∙ refused_stays r ls h
+refused_stays r (l ∷ ls) h = ap (λ (t : Bool). after_lines (after_line_if t r l) ls) h ∙ refused_stays r ls h
 
 malformed_stays : (r : Reading) (ls : List (List ℕ)) → after_lines (malformed r) ls ≡ malformed r
 malformed_stays r ls =
-    refused_stays (malformed r) ls
-    (by_cond (λ (q : Reading). 0 < q.refusal) (eqb r.refusal 0) (refused r) r
-    (λ e. number_some r.line)
-    (λ e. let some = eqb-false r.refusal 0 e in omega (arith, some)))
-
-answer_by_law : (line last n : ℕ) → 0 < n → answer_of (record { line = line; last = last; refusal = n }) ≡ refused_at n line
-unfolding end_refusal
-answer_by_law line last n h = let some = ne_eqb n 0 (λ e. omega arith) in rw (some, some)
+    refused_stays (malformed r) ls (by_cond (λ (q : Reading). is_none q.refusal ≡ false) (is_none r.refusal) (refused r) r (λ e. refl) (λ e. e))
 
 -- ---- the lines of the whole file: their shapes one after the other, and the line that is due
 
 -- n lines are passed
 module _ (n line last : ℕ) (place : line ≡ suc n) where
   abbrev r : Reading
-  r = record { line = line; last = last; refusal = 0 }
+  r = record { line = line; last = last; refusal = None }
 
   refused_answer : (ls : List (List ℕ)) → answer_of (after_lines (refused r) ls) ≡ refused_at (number_due line) line
-  refused_answer ls = ap answer_of (refused_stays (refused r) ls (number_some line)) ∙ answer_by_law line last (number_due line) (number_some line)
+  unfolding end_refusal
+  refused_answer ls = ap answer_of (refused_stays (refused r) ls refl)
 
   -- one of the thirteen is due
   module _ (more : n < line_count) where
@@ -97,11 +69,10 @@ module _ (n line last : ℕ) (place : line ≡ suc n) where
     missing : refused_at (shape_at n).number line ≡ answer_of r
     unfolding end_refusal
     missing =
-        let some = ne_eqb (number_due line) 0 (λ e. omega (arith, number_some line, e)) in
-        let number_here : end_refusal r ≡ number_due line = rw (le-ltb line_count line (omega arith)) in
-        ap (λ (k : ℕ). refused_at k line) (sym number) ∙ sym (rw (number_here, some))
+        let number_here : end_refusal r ≡ Some (number_due line) = rw (le-ltb line_count line (omega arith)) in
+        ap (λ (k : ℕ). refused_at k line) (sym number) ∙ sym (ap (λ (k : Option ℕ). answer_by k r) number_here)
 
-    line_by_law : (t : Bool) (l : List ℕ) (ls : List (List ℕ)) (next : ConfigRead) → next ≡ answer_of (after_lines (passed r l) ls)
+    line_by_law : (t : Bool) (l : List ℕ) (ls : List (List ℕ)) (next : Result ℕ Fault) → next ≡ answer_of (after_lines (passed r l) ls)
         → cond t next (refused_at (shape_at n).number line) ≡ answer_of (after_lines (cond t (passed r l) (refused r)) ls)
     line_by_law true l ls next e = e
     line_by_law false l ls next e = sym (refused_answer ls ∙ ap (λ (k : ℕ). refused_at k line) number)
@@ -140,7 +111,7 @@ module _ (n line last : ℕ) (place : line ≡ suc n) where
 
 -- the lines against their shapes give what the reading after them answers
 lines_read : (n line last : ℕ) (ls : List (List ℕ)) → line ≡ suc n → n ≤ line_count
-    → read_from line last (drop n shapes) ls ≡ answer_of (after_lines (record { line = line; last = last; refusal = 0 }) ls)
+    → read_from line last (drop n shapes) ls ≡ answer_of (after_lines (record { line = line; last = last; refusal = None }) ls)
 lines_read n line last [] place h = ⊎_elim (λ e. after_all n line last place e []) (λ more. none_left n line last place more) (eq-or-lt_of_le h)
 lines_read n line last (l ∷ ls) place h =
     ⊎_elim (λ e. after_all n line last place e (l ∷ ls))
@@ -165,7 +136,7 @@ module _ (r : Reading) where
 
   wrong_ends : (l : List ℕ) (ls : List (List ℕ)) → ((ks : List Field) → is_right ks l ≡ false) → after_lines r (l ∷ ls) ≡ malformed r
   unfolding after_lines
-  wrong_ends l ls h = ap (λ (q : Reading). after_lines q ls) (wrong_by (eqb r.refusal 0) l h) ∙ malformed_stays r ls
+  wrong_ends l ls h = ap (λ (q : Reading). after_lines q ls) (wrong_by (is_none r.refusal) l h) ∙ malformed_stays r ls
 
   -- the end of the file in a line that is not closed
   open_ends : (l : List ℕ) → 0 < length l → ends_cr_lf l ≡ false → after_lines r (lines_from CrLf l []) ≡ malformed r
@@ -255,30 +226,30 @@ config_of_calls ps =
 
 -- ---- after a refusal nothing that follows changes the answer, so that nothing more need be read
 
-kept_if : (t : Bool) (q : Reading) → (q.refusal ≡ 0 → ⊥) → malformed_if t q ≡ q
+kept_if : (t : Bool) (q : Reading) → is_none q.refusal ≡ false → malformed_if t q ≡ q
 unfolding malformed_if
-kept_if true q h = rw (ne_eqb q.refusal 0 h)
+kept_if true q h = rw h
 kept_if false q h = refl
 
-refused_taken : (r : Reader) (s : List ℕ) → (r.reading.refusal ≡ 0 → ⊥) → (take_answer r s).reading ≡ r.reading
+refused_taken : (r : Reader) (s : List ℕ) → is_none r.reading.refusal ≡ false → (take_answer r s).reading ≡ r.reading
 unfolding taken_if taken malformed_if
 refused_taken r s h = by_room (ltb r.cutter.count line_limit)
   where
     by_room : (t : Bool) → (taken_if t r s).reading ≡ r.reading
     by_room true =
         let x = cut_portion r s in
-        ap (malformed_if x.too_long) (refused_stays r.reading x.lines (omega (arith, h))) ∙ kept_if x.too_long r.reading h
+        ap (malformed_if x.too_long) (refused_stays r.reading x.lines h) ∙ kept_if x.too_long r.reading h
     by_room false = kept_if true r.reading h
 
-all_refused : (r : Reader) (ps : List (List ℕ)) → (r.reading.refusal ≡ 0 → ⊥) → (taken_all r ps).reading ≡ r.reading
+all_refused : (r : Reader) (ps : List (List ℕ)) → is_none r.reading.refusal ≡ false → (taken_all r ps).reading ≡ r.reading
 all_refused r [] h = refl
 all_refused r (p ∷ ps) h =
     let here = refused_taken r p h in
-    all_refused (take_answer r p) ps (λ e. h (sym (ap (λ (q : Reading). q.refusal) here) ∙ e)) ∙ here
+    all_refused (take_answer r p) ps (ap (λ (q : Reading). is_none q.refusal) here ∙ h) ∙ here
 
-pub refused_for_good : (r : Reader) (ps : List (List ℕ)) → (r.reading.refusal ≡ 0 → ⊥) → end_answer (taken_all r ps) ≡ end_answer r
+pub refused_for_good : (r : Reader) (ps : List (List ℕ)) → is_none r.reading.refusal ≡ false → end_answer (taken_all r ps) ≡ end_answer r
 refused_for_good r ps h =
     let all = all_refused r ps h in
-    let still : (taken_all r ps).reading.refusal ≡ 0 → ⊥ = λ e. h (sym (ap (λ (q : Reading). q.refusal) all) ∙ e) in
+    let still = ap (λ (q : Reading). is_none q.refusal) all ∙ h in
     ap answer_of
     (kept_if (ltb 0 (taken_all r ps).cutter.count) (taken_all r ps).reading still ∙ all ∙ sym (kept_if (ltb 0 r.cutter.count) r.reading h))

@@ -21,7 +21,7 @@ use Rattle.text.proofs.LinesLaws.{written_first_law}
 use Rattle.fields.proofs.MarkLaws.{nothing_within, one_within, join_within, within_lacks}
 use Rattle.text.proofs.CutLaws.{lines_nil, last_nothing, joined_none, joined_more}
 use Rattle.fields.specs.declared.field.Field.{Field}
-use Rattle.config.specs.declared.reader.ConfigRead.TheVariants.{Accepted}
+use Rattle.std.specs.Prelude.{Ok}
 use Rattle.config.specs.Refusals.{multiplier}
 use Rattle.fields.specs.Marks.{unspaced, all_printable}
 use Rattle.config.specs.Line.{fit_all, longest_line, is_right}
@@ -138,7 +138,7 @@ module _ (x : Shape) (xs : List Shape) (h : some_fields (x ∷ xs) ≡ true) whe
   rest_some = (both_true (leb 1 (length x.fields)) (some_fields xs) h).1
 
 after_rate : (line last : ℕ) (xs : List Shape) (fss : List (List (List ℕ))) → rate_line < line → some_fields xs ≡ true
-    → AllRight xs fss → read_from line last xs (lines_of CrLf (file_of fss)) ≡ Accepted last
+    → AllRight xs fss → read_from line last xs (lines_of CrLf (file_of fss)) ≡ Ok last
 unfolding read_from
 after_rate line last [] [] past some h = rw no_lines
 after_rate line last [] (fs ∷ fss) past some h = absurd h
@@ -149,7 +149,7 @@ after_rate line last (x ∷ xs) (fs ∷ fss) past some (right, others) =
 
 -- n lines before the rate line
 to_rate : (n line last : ℕ) (xs : List Shape) (fss : List (List (List ℕ))) → line + n ≡ rate_line → n < length xs → some_fields xs ≡ true
-    → AllRight xs fss → read_from line last xs (lines_of CrLf (file_of fss)) ≡ Accepted (sample_in (get_or fss n []))
+    → AllRight xs fss → read_from line last xs (lines_of CrLf (file_of fss)) ≡ Ok (sample_in (get_or fss n []))
 to_rate n line last [] fss place more some h = absurd (omega arith)
 to_rate n line last (x ∷ xs) [] place more some h = absurd h
 to_rate zero line last (x ∷ xs) (fs ∷ fss) place more some (right, others) =
@@ -174,7 +174,7 @@ missing_from (suc k) line last (x ∷ xs) (fs ∷ fss) more some (right, others)
     ∙ ap (refused_at (get_or xs k no_shape).number) place
 
 -- A CONFIGURATION PUT TOGETHER FROM RIGHT FIELDS IS ACCEPTED, with its last sample number
-pub put_together_accepted : (fss : List (List (List ℕ))) → AllRight shapes fss → config_of (file_of fss) ≡ Accepted (last_sample_of fss)
+pub put_together_accepted : (fss : List (List (List ℕ))) → AllRight shapes fss → config_of (file_of fss) ≡ Ok (last_sample_of fss)
 unfolding config_of
 put_together_accepted fss h = to_rate (rate_line - 1) 1 0 shapes fss refl (omega arith) refl h
 

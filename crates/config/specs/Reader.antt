@@ -1,22 +1,21 @@
 -- What the reader of a configuration answers, portion by portion.
-use Rattle.std.specs.Prelude.{Bool, true, false, cond, ◌&&◌, List, [], ◌∷◌, ℕ, ◌+◌, ◌-◌, eqb, ltb}
+use Rattle.std.specs.Prelude.{Bool, true, false, cond, ◌&&◌, List, [], ◌∷◌, ℕ, ◌+◌, ◌-◌, ltb, Option, Some, None, is_none, Result, Ok}
 use Rattle.checks.specs.Range.{in_range}
 use Rattle.text.specs.declared.lines.Closer.TheVariants.{CrLf}
 use Rattle.text.specs.Lines.{Cutting, cutting}
 use Rattle.text.specs.Cutter.{empty_cutter, held_line, cutter_after}
 use Rattle.config.specs.declared.reader.Reading.{Reading}
 use Rattle.config.specs.declared.reader.Reader.{Reader}
-use Rattle.config.specs.declared.reader.ConfigRead.{ConfigRead}
-use Rattle.config.specs.declared.reader.ConfigRead.TheVariants.{Accepted}
+use Rattle.config.specs.declared.reader.Fault.{Fault}
 use Rattle.config.specs.Config.{refused_at, last_after}
 use Rattle.config.specs.Refusals.{multiplier}
 use Rattle.config.specs.Line.{longest_line, is_right}
 use Rattle.config.specs.Shape.{line_count, shape_at}
 
--- ---- how far it has come: the number of the line that is due, the last sample number, and the refusal, 0 where there is none
+-- ---- how far it has come: the number of the line that is due, the last sample number, and the refusal, where there is one
 
 abbrev pub fresh_reading : Reading
-fresh_reading = record { line = 1; last = 0; refusal = 0 }
+fresh_reading = record { line = 1; last = 0; refusal = None }
 
 -- whether one of the thirteen lines is due
 abbrev pub is_due : ℕ → Bool
@@ -31,10 +30,10 @@ abbrev pub number_due : ℕ → ℕ
 number_due line = cond (is_due line) (shape_at (line - 1)).number multiplier
 
 abbrev pub passed : Reading → List ℕ → Reading
-passed r l = record { line = r.line + 1; last = last_after r.line l r.last; refusal = 0 }
+passed r l = record { line = r.line + 1; last = last_after r.line l r.last; refusal = None }
 
 abbrev pub refused : Reading → Reading
-refused r = record { line = r.line; last = r.last; refusal = number_due r.line }
+refused r = record { line = r.line; last = r.last; refusal = Some (number_due r.line) }
 
 -- a line, where nothing was refused before
 unfoldable pub after_line_if : Bool → Reading → List ℕ → Reading
@@ -42,7 +41,7 @@ after_line_if true r l = cond (is_right_at r.line l) (passed r l) (refused r)
 after_line_if false r l = r
 
 abbrev pub after_line : Reading → List ℕ → Reading
-after_line r l = after_line_if (eqb r.refusal 0) r l
+after_line r l = after_line_if (is_none r.refusal) r l
 
 unfoldable pub after_lines : Reading → List (List ℕ) → Reading
 after_lines r [] = r
@@ -50,7 +49,7 @@ after_lines r (l ∷ ls) = after_lines (after_line r l) ls
 
 -- a line that is too long, or that the end of the file leaves open, is malformed
 abbrev pub malformed : Reading → Reading
-malformed r = cond (eqb r.refusal 0) (refused r) r
+malformed r = cond (is_none r.refusal) (refused r) r
 
 unfoldable pub malformed_if : Bool → Reading → Reading
 malformed_if true r = malformed r
@@ -96,15 +95,16 @@ abbrev pub last_reading : Reader → Reading
 last_reading r = malformed_if (ltb 0 r.cutter.count) r.reading
 
 -- none after the thirteenth line; else that of the line that was refused, or of the one that is missing
-unfoldable pub end_refusal : Reading → ℕ
-end_refusal r = cond (eqb r.refusal 0) (cond (ltb line_count r.line) 0 (number_due r.line)) r.refusal
+unfoldable pub end_refusal : Reading → Option ℕ
+end_refusal r = cond (is_none r.refusal) (cond (ltb line_count r.line) None (Some (number_due r.line))) r.refusal
 
-abbrev pub answer_by : ℕ → Reading → ConfigRead
-answer_by refusal r = cond (eqb refusal 0) (Accepted r.last) (refused_at refusal r.line)
+abbrev pub answer_by : Option ℕ → Reading → Result ℕ Fault
+answer_by None r = Ok r.last
+answer_by (Some refusal) r = refused_at refusal r.line
 
-abbrev pub answer_of : Reading → ConfigRead
+abbrev pub answer_of : Reading → Result ℕ Fault
 answer_of r = answer_by (end_refusal r) r
 
 -- WHAT THE END ANSWERS
-abbrev pub end_answer : Reader → ConfigRead
+abbrev pub end_answer : Reader → Result ℕ Fault
 end_answer r = answer_of (last_reading r)

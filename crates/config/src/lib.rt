@@ -6,4 +6,4 @@ mod reader;
 mod refusals;
 mod shape;
 
-pub use reader::{ConfigRead, Fault, Reader, Reading};
+pub use reader::{Fault, Reader, Reading};

@@ -1,13 +1,13 @@
 -- What a byte does to the line that has begun, and the lines of a stream one byte on.
 -- Assumes nothing.
-use mathlib.Core.Path.{◌≡◌, refl, ap, ◌∙◌}
+use mathlib.Core.Path.{◌≡◌, refl, sym, ap, ◌∙◌}
 use mathlib.Core.Bool.{true, false, cond, ◌&&◌, and-false, or-false}
 use mathlib.Core.List.{List, [], ◌∷◌, ◌++◌}
 use Prim.Native.Nat.{ℕ, suc, ◌+◌, ◌-◌, ◌≤◌, ◌<◌}
 use native.Mathlib.Omega.{arith}
 use lib.Dec.{eqb}
 use lib.ListN.{length, get_or, take, length-append, length-take}
-use lib.Seq.{take-suc, append_snoc}
+use lib.Seq.{take-suc, append_snoc, take_all}
 use borrow.Author.Tests.{eq-eqb, ne_eqb, eqb-true, eqb-false}
 use Rattle.text.specs.declared.lines.Closer.{Closer}
 use Rattle.text.specs.declared.lines.Cut.{Cut}
@@ -17,27 +17,43 @@ use Rattle.text.specs.Lines.{ends_lf, closed_by, last_line, lines_from, cut_of, 
 use Rattle.checks.proofs.Cases.{by_cond}
 use Rattle.text.proofs.ShapeLaws.{ends_two}
 
--- ---- whether a byte closes the line of the n bytes held
+-- ---- whether a line is closed: its last bytes tell
 
-pub cr_lf_first : (b : ℕ) (s : List ℕ) → ends_cr_lf (take 0 s ++ (b ∷ [])) ≡ false
-unfolding ends_cr_lf is_lf
-cr_lf_first b s = rw (and-false (eqb b cr))
+last_byte : (l : List ℕ) → 1 ≤ length l → take (length l - 1) l ++ (get_or l (length l - 1) 0 ∷ []) ≡ l
+last_byte l h =
+    let n : suc (length l - 1) ≡ length l = omega arith in
+    sym (take-suc l (length l - 1) 0 (omega arith)) ∙ rw n (take_all (length l) l (omega arith))
 
-cr_lf_some : (b k : ℕ) (s : List ℕ) → k < length s → ends_cr_lf (take (suc k) s ++ (b ∷ [])) ≡ eqb (get_or s k 0) cr && eqb b lf
-cr_lf_some b k s h = rw (take-suc s k 0 h, append_snoc (take k s) (get_or s k 0) (b ∷ [])) (ends_two (take k s) (get_or s k 0) b)
-
-pub cr_lf_at : (b n : ℕ) (s : List ℕ) → (n ≡ 0 → ⊥) → n ≤ length s → ends_cr_lf (take n s ++ (b ∷ [])) ≡ eqb (get_or s (n - 1) 0) cr && eqb b lf
-cr_lf_at b n s h l =
-    let e : n ≡ suc (n - 1) = omega arith in
-    ap (λ (m : ℕ). ends_cr_lf (take m s ++ (b ∷ []))) e ∙ cr_lf_some b (n - 1) s (omega arith)
-
--- the last byte tells
-pub lf_last : (l : List ℕ) (b : ℕ) → ends_lf (l ++ (b ∷ [])) ≡ eqb b lf
+lf_last : (l : List ℕ) (b : ℕ) → ends_lf (l ++ (b ∷ [])) ≡ eqb b lf
 unfolding ends_lf is_lf
 lf_last [] b = or-false (eqb b lf)
 lf_last (a ∷ l) b =
     let n : length (l ++ (b ∷ [])) ≡ length l + 1 = length-append l (b ∷ []) in
     rw (ne_eqb (suc (length (l ++ (b ∷ [])))) 1 (λ e. omega arith)) (lf_last l b)
+
+cr_lf_last : (b k : ℕ) (s : List ℕ) → k < length s → ends_cr_lf (take (suc k) s ++ (b ∷ [])) ≡ eqb (get_or s k 0) cr && eqb b lf
+cr_lf_last b k s h = rw (take-suc s k 0 h, append_snoc (take k s) (get_or s k 0) (b ∷ [])) (ends_two (take k s) (get_or s k 0) b)
+
+pub lf_at : (l : List ℕ) → 1 ≤ length l → ends_lf l ≡ eqb (get_or l (length l - 1) 0) lf
+lf_at l h = ap ends_lf (sym (last_byte l h)) ∙ lf_last (take (length l - 1) l) (get_or l (length l - 1) 0)
+
+pub lf_none : (l : List ℕ) → length l < 1 → ends_lf l ≡ false
+unfolding ends_lf
+lf_none [] h = refl
+lf_none (a ∷ l) h = absurd (omega arith)
+
+pub cr_lf_at : (l : List ℕ) → 2 ≤ length l → ends_cr_lf l ≡ eqb (get_or l (length l - 2) 0) cr && eqb (get_or l (length l - 1) 0) lf
+cr_lf_at l h =
+    let b = get_or l (length l - 1) 0 in
+    let e : length l - 1 ≡ suc (length l - 2) = omega arith in
+    let whole = sym (last_byte l (omega arith)) ∙ ap (λ (m : ℕ). take m l ++ (b ∷ [])) e in
+    ap ends_cr_lf whole ∙ cr_lf_last b (length l - 2) l (omega arith)
+
+pub cr_lf_none : (l : List ℕ) → length l < 2 → ends_cr_lf l ≡ false
+unfolding ends_cr_lf is_lf
+cr_lf_none [] h = refl
+cr_lf_none (a ∷ []) h = rw (and-false (eqb a cr))
+cr_lf_none (a ∷ b ∷ l) h = absurd (omega arith)
 
 -- ---- what the cutter answers, by the line
 

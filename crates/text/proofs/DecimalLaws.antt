@@ -3,8 +3,8 @@
 use mathlib.Core.Path.{◌≡◌, refl, sym, ap, ◌∙◌}
 use mathlib.Core.Bool.{true, false}
 use mathlib.Core.List.{List, [], ◌∷◌, ◌++◌}
-use Prim.Native.Nat.{ℕ, zero, suc, ◌+◌, ◌-◌, ◌*◌, ◌/◌, ◌%◌, ◌^◌, ◌≤◌, ◌<◌}
-use native.Mathlib.Nat.{pow-suc, pow-le-pow_right}
+use Prim.Native.Nat.{ℕ, zero, suc, ◌+◌, ◌-◌, ◌*◌, ◌/◌, ◌%◌, ◌^◌, ◌≤◌, ◌<◌, max}
+use native.Mathlib.Nat.{pow-suc, pow-le-pow_right, one-le-pow}
 use native.Mathlib.Omega.{arith}
 use lib.Dec.{ltb}
 use lib.ListN.{length, get_or, set, length-append}
@@ -129,6 +129,24 @@ unfolding decimal_in
 decimal_some zero v = omega arith
 decimal_some (suc n) v =
     by_cond (λ (l : List ℕ). 1 ≤ length l) (ltb v 10) ((48 + v) ∷ []) (decimal_in n (v / 10) ++ ((48 + v % 10) ∷ [])) (λ e. omega arith) (λ e. rw length-append (omega arith))
+
+-- at least k + 1 from 10 to the k on
+decimal_least : (k n v : ℕ) → k ≤ n → 10 ^ k ≤ v → suc k ≤ length (decimal_in n v)
+decimal_least zero n v l h = decimal_some n v
+decimal_least (suc k) zero v l h = absurd (omega arith)
+decimal_least (suc k) (suc n) v l h =
+    let m : 10 ^ k * 10 ≤ v = rw (pow-suc 10 k) at h in
+    let some : 1 ≤ 10 ^ k = one-le-pow k 10 (omega arith) in
+    rw (decimal_long n v (omega arith), length-append) (omega (arith, decimal_least k n (v / 10) (omega arith) (omega arith)))
+
+-- exactly k + 1 between these, where 0 counts as 1
+pub decimal_length_at : (k v : ℕ) → k ≤ 19 → 10 ^ k ≤ max v 1 → max v 1 < 10 * 10 ^ k → length (decimal v) ≡ suc k
+decimal_length_at zero v l least most = ap length (decimal_one v (omega arith))
+decimal_length_at (suc k) v l least most =
+    let p : 10 ^ suc k ≡ 10 ^ k * 10 = pow-suc 10 k in
+    let some : 1 ≤ 10 ^ k = one-le-pow k 10 (omega arith) in
+    let below : v < 10 ^ suc (suc k) = rw (pow-suc 10 (suc k)) (omega arith) in
+    omega (arith, decimal_least (suc k) 19 v l (omega arith), decimal_short (suc k) v l below)
 
 -- ---- without leading zeros: a number of two digits or more does not begin with 0
 

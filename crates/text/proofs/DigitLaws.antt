@@ -7,12 +7,12 @@ use Prim.Native.Nat.{ℕ, zero, suc, ◌+◌, ◌-◌, ◌*◌, ◌^◌, ◌≤�
 use native.Mathlib.Nat.{pow-suc, pow-le-pow_right}
 use native.Mathlib.Numerals.{add-one}
 use native.Mathlib.Omega.{arith}
-use lib.Dec.{eqb, leb, lit<}
-use lib.ListN.{length, get_or, drop, drop_of_length-le}
-use lib.Seq.{drop-cons, drop-length}
-use borrow.Author.Tests.{eq-eqb, ne_eqb, eqb-true, le-leb, lt-leb, leb-true}
+use lib.Dec.{eqb, leb, ltb, lit<}
+use lib.ListN.{length, get_or, take, drop, length-take, length-drop, drop_of_length-le}
+use lib.Seq.{drop-cons, drop-length, get_or-take, get_or-drop}
+use borrow.Author.Tests.{eq-eqb, ne_eqb, eqb-true, le-leb, lt-leb, leb-true, ltb-true, ltb-false}
 use Rattle.checks.proofs.Cases.{by_cond, same_test}
-use Rattle.checks.proofs.Tests.{in_range_law, is_in_range, below_range, above_range}
+use Rattle.checks.proofs.Tests.{in_range_law}
 use Rattle.text.specs.declared.number.Digits.{Digits}
 use Rattle.text.specs.Number.{is_digit, all_digits, leading, value_from, value_of, digits_from}
 
@@ -56,7 +56,7 @@ module _ (w n v p : ℕ) (s : List ℕ) where
   abbrev here : Digits
   here = record { count = n; value = v }
 
-  pub digits_full : w ≤ n → here ≡ rest
+  digits_full : w ≤ n → here ≡ rest
   unfolding leading value_from
   digits_full h = let e : w - n ≡ 0 = omega arith in let z : n + 0 ≡ n = omega arith in rw (e, z)
 
@@ -64,25 +64,29 @@ module _ (w n v p : ℕ) (s : List ℕ) where
     split : w - n ≡ suc (w - (n + 1))
     split = omega arith
 
-    pub digits_end : p ≡ length s → here ≡ rest
+    digits_end : p ≡ length s → here ≡ rest
     unfolding leading value_from
     digits_end e = let z : n + 0 ≡ n = omega arith in rw (split, e, drop-length s, z)
 
     module _ (k : p < length s) where
-      pub digits_low : get_or s p 0 < 48 → here ≡ rest
+      pub digits_stop : is_digit (get_or s p 0) ≡ false → here ≡ rest
       unfolding leading value_from
-      digits_low a = let z : n + 0 ≡ n = omega arith in rw (split, drop-cons s p 0 k, below_range 48 57 (get_or s p 0) a, z)
+      digits_stop e = let z : n + 0 ≡ n = omega arith in rw (split, drop-cons s p 0 k, e, z)
 
-      pub digits_high : 57 < get_or s p 0 → here ≡ rest
-      unfolding leading value_from
-      digits_high a = let z : n + 0 ≡ n = omega arith in rw (split, drop-cons s p 0 k, above_range 48 57 (get_or s p 0) a, z)
-
-      pub digits_more : 48 ≤ get_or s p 0 → get_or s p 0 ≤ 57
+      pub digits_more : is_digit (get_or s p 0) ≡ true
           → rest ≡ digits_from (n + 1) (v * 10 + (get_or s p 0 - 48)) (leading (w - (n + 1)) (drop (p + 1) s))
       unfolding leading value_from
-      digits_more a b =
+      digits_more e =
           let z : (m : ℕ) → n + suc m ≡ n + 1 + m = λ m. omega arith in
-          rw (split, drop-cons s p 0 k, is_in_range 48 57 (get_or s p 0) a b, z, add-one p)
+          rw (split, drop-cons s p 0 k, e, z, add-one p)
+
+  -- as many as are asked for, or as the text has
+  pub digits_over : (n < w → p ≡ length s) → here ≡ rest
+  digits_over h = by_order (ltb n w) refl
+    where
+      by_order : (t : Bool) → ltb n w ≡ t → here ≡ rest
+      by_order true e = let more : n < w = ltb-true n w e in digits_end more (h more)
+      by_order false e = digits_full (ltb-false n w e)
 
 -- n digits stand at the place, they give v, and what is left gives the whole
 pub record DigitsRead (s : List ℕ) (at width n v : ℕ) : Type 0 where
@@ -101,13 +105,29 @@ digits_none s at w h =
     let f : at + 0 ≡ at = omega arith in
     record { few = omega arith; within = omega arith; small = lit< tt; whole = rw (e, f) }
 
+-- the reader goes through the part of the text that may have digits, of m bytes
+module _ (s : List ℕ) (at w m n : ℕ) (within : at ≤ length s) (least : m ≡ min w (length s - at)) where
+  abbrev part : List ℕ
+  part = take (at + m - at) (drop at s)
+
+  part_length : length part ≡ m
+  part_length = rw length-take (omega (arith, length-drop at s))
+
+  pub part_at : n < length part → (n < w) × (at + n < length s) × (get_or part n 0 ≡ get_or s (at + n) 0)
+  part_at h =
+      let long = part_length in
+      (omega arith, omega arith, get_or-take (at + m - at) (drop at s) n 0 (omega arith) ∙ get_or-drop at s n 0)
+
+  pub part_over : length part ≤ n → n ≤ length part → (length part ≡ n) × (n < w → at + n ≡ length s)
+  part_over h k = let long = part_length in (omega arith, λ more. omega arith)
+
 -- a turn, in the reader's own terms
-pub digits_again : (w n v at : ℕ) (s : List ℕ) → n < w → at + n < length s → 48 ≤ get_or s (at + n) 0 → get_or s (at + n) 0 ≤ 57
-    → digits_from (n + 1) (v * 10 + (get_or s (at + n) 0 - 48)) (leading (w - (n + 1)) (drop (at + (n + 1)) s))
+pub digits_again : (w n v at : ℕ) (s : List ℕ) (b : ℕ) → n < w → at + n < length s → b ≡ get_or s (at + n) 0 → is_digit b ≡ true
+    → digits_from (n + 1) (v * 10 + (b - 48)) (leading (w - (n + 1)) (drop (at + (n + 1)) s))
     ≡ digits_from n v (leading (w - n) (drop (at + n) s))
-digits_again w n v at s h k a b =
+digits_again w n v at s b h k here digit =
     let e : at + (n + 1) ≡ at + n + 1 = omega arith in
-    rw e (sym (digits_more w n v (at + n) s h k a b))
+    rw (e, here) (sym (digits_more w n v (at + n) s h k (ap is_digit (sym here) ∙ digit)))
 
 pub digits_count : (d : Digits) (w : ℕ) (s : List ℕ) → d ≡ digits_from 0 0 (leading w s) → d.count ≡ length (leading w s)
 digits_count d w s e = let z : 0 + length (leading w s) ≡ length (leading w s) = omega arith in ap (λ (x : Digits). x.count) e ∙ z

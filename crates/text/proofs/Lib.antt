@@ -13,4 +13,3 @@ pub mod CuttingLaws
 pub mod PieceLaws
 pub mod CutTurns
 pub mod KeptLaws
-pub mod WordsLaws

@@ -28,6 +28,12 @@ pub sets_all : (s xs : List ℕ) → length xs ≡ length s → sets s 0 xs ≡ 
 sets_all s xs e =
     sets_front s xs (omega arith) ∙ rw (e, drop-length s) (append-nil xs)
 
+-- a store of the whole of the lent part `&mut s[at..end]`, said of the whole
+pub sets_part : (s : List ℕ) (at : ℕ) (xs : List ℕ) → at + length xs ≤ length s → put_mid at (at + length xs - at) s xs ≡ sets s at xs
+sets_part s at xs h =
+    let long : at + length xs - at ≡ length xs = omega arith in
+    rw (long, drop-drop, ← append_assoc) (sym (sets-eq xs s at h))
+
 -- a store at the front of the lent part `&mut s[at..]`, said of the whole
 pub sets_free : (s : List ℕ) (at : ℕ) (xs part : List ℕ) → at + length xs ≤ length s → part ≡ sets (mid_of at (length s - at) s) 0 xs
     → put_mid at (length s - at) s part ≡ sets s at xs

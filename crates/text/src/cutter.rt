@@ -1,7 +1,6 @@
 // The cutter of a stream into lines, for a stream that comes in portions.
 ghost use Rattle.std.specs.Prelude.{◌≡◌, ◌≤◌, ◌<◌};
-ghost use Rattle.text.specs.Cutter.{held_room, limit_of, empty_cutter, piece_answer, piece_from};
-ghost use Rattle.text.specs.device.Calls.{goes_on, piece_with};
+ghost use Rattle.text.specs.Cutter.{held_room, empty_cutter, held_line, piece_answer, piece_from};
 
 use crate::lines::{Closer, Cut, cut_byte};
 
@@ -11,7 +10,7 @@ pub const LONGEST_OF_ALL: usize = 256;
 // One byte more tells that a line is too long.
 pub const HELD_ROOM: usize = LONGEST_OF_ALL + 1;
 
-// The line that has begun: the first `count` bytes of `held`.
+// The line that has begun: the first `count` bytes of `held`. The count stands beside its memory, which is fixed: no heap.
 #[derive(Clone, Copy)]
 pub struct Cutter {
     pub held: [u8; HELD_ROOM],
@@ -26,48 +25,33 @@ pub struct PieceCut {
     pub next: usize,
 }
 
-fn goes_on(cut: Cut) -> bool
-    ensures { result ≡ goes_on cut }
-{
-    match cut {
-        Cut::Held => true,
-        Cut::Closed => false,
-        Cut::TooLong => false,
-    }
-}
-
-fn limit_of(limit: usize) -> usize
-    ensures { result ≡ limit_of limit }
-{
-    if limit < HELD_ROOM { limit } else { HELD_ROOM }
-}
-
-fn piece(cut: Cut, held: [u8; HELD_ROOM], count: usize, next: usize) -> PieceCut
-    ensures { result ≡ piece_with cut held count next }
-{
-    let cutter = Cutter { held, count };
-    PieceCut { cut, cutter, next }
-}
-
 // The piece of a line that has room for a byte more.
 fn cut_on(cutter: Cutter, portion: &[u8], from: usize, limit: usize, closer: Closer) -> PieceCut
     requires { (cutter.count < limit) × (limit ≤ held_room) }
     ensures { result ≡ piece_from closer limit cutter portion.now from }
 {
-    let mut held = cutter.held;
-    let mut n = cutter.count;
-    let mut i = from;
-    while i < portion.len() {
-        let b = portion[i];
-        i += 1;
-        let cut = cut_byte(&mut held, n, b, limit, closer);
-        n += 1;
-        if goes_on(cut) {
-            continue;
+    let Cutter {
+        mut held,
+        mut count,
+    } = cutter;
+    for i in from..portion.len() {
+        let cut = cut_byte(&mut held, count, portion[i], limit, closer);
+        count += 1;
+        if cut != Cut::Held {
+            let cutter = Cutter { held, count };
+            return PieceCut {
+                cut,
+                cutter,
+                next: i + 1,
+            };
         }
-        return piece(cut, held, n, i);
     }
-    piece(Cut::Held, held, n, i)
+    let cutter = Cutter { held, count };
+    PieceCut {
+        cut: Cut::Held,
+        cutter,
+        next: from.max(portion.len()),
+    }
 }
 
 impl Cutter {
@@ -80,21 +64,28 @@ impl Cutter {
         }
     }
 
+    // The line, as far as it has come.
+    pub fn line(&self) -> &[u8]
+        ensures { result.now ≡ held_line self.now }
+    {
+        &self.held[..self.count.min(HELD_ROOM)]
+    }
+
     // Goes on with the bytes of a portion from a place, to and with the first that is not only held. The cutter then holds the
     // line that it closed or that is too long: the client takes it, and goes on with an empty one. A line is too long that has
     // `limit` bytes, or as many as the room, and is not closed.
     pub fn cut(self, portion: &[u8], from: usize, limit: usize, closer: Closer) -> PieceCut
         ensures { result ≡ piece_answer closer limit self portion.now from }
     {
-        let count = self.count;
-        let most = limit_of(limit);
-        if count < most {
-            return cut_on(self, portion, from, most, closer);
-        }
-        PieceCut {
-            cut: Cut::TooLong,
-            cutter: self,
-            next: from,
+        let limit = limit.min(HELD_ROOM);
+        if self.count < limit {
+            cut_on(self, portion, from, limit, closer)
+        } else {
+            PieceCut {
+                cut: Cut::TooLong,
+                cutter: self,
+                next: from,
+            }
         }
     }
 }

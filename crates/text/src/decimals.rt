@@ -1,6 +1,5 @@
 // A line of decimals: its length, and writing it.
-ghost use Rattle.std.specs.Prelude.{◌≡◌, cond, eqb, ◌≤◌, length};
-ghost use Rattle.text.specs.Line.{cr, comma};
+ghost use Rattle.std.specs.Prelude.{◌≡◌, ◌≤◌, length};
 ghost use Rattle.text.specs.Decimals.{line_of};
 ghost use Rattle.text.specs.device.Calls.{Writable, Wrote};
 
@@ -12,19 +11,10 @@ pub fn line_length(numbers: &[u32]) -> usize
     ensures { result ≡ length (line_of numbers.now) }
 {
     let mut at = 0;
-    let mut k = 0;
-    while k < numbers.len() {
-        at += decimal_length(numbers[k]) + 1;
-        k += 1;
+    for n in numbers {
+        at += decimal_length(*n) + 1;
     }
     at + 1
-}
-
-// The byte that closes field k of n, counted from 1: a comma, after the last one CR.
-fn field_closer(k: usize, n: usize) -> u8
-    ensures { result ≡ cond (eqb k n) cr comma }
-{
-    if k == n { b'\r' } else { b',' }
 }
 
 // Writes the line at the front of `out`, and answers its length.
@@ -33,11 +23,9 @@ pub fn put_line(out: &mut [u8], numbers: &[u32]) -> usize
     ensures { Wrote out.old out.new 0 result (line_of numbers.now) }
 {
     let mut at = 0;
-    let mut k = 0;
-    while k < numbers.len() {
-        let p = put_decimal(out, at, numbers[k] as u64);
-        k += 1;
-        out[p] = field_closer(k, numbers.len());
+    for (k, n) in numbers.iter().enumerate() {
+        let p = put_decimal(out, at, u64::from(*n));
+        out[p] = if k + 1 == numbers.len() { b'\r' } else { b',' };
         at = p + 1;
     }
     let end = at + 1;

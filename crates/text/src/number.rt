@@ -3,9 +3,7 @@ ghost use Rattle.std.specs.Prelude.{◌≡◌, ◌+◌, ◌≤◌, length};
 ghost use Rattle.text.specs.Number.{digit_limit, decimal};
 ghost use Rattle.text.specs.device.Calls.{DigitsFound, Wrote};
 
-// The byte '0'.
-const ZERO: u64 = 48;
-
+// So many digits, and their number.
 #[derive(Clone, Copy)]
 pub struct Digits {
     pub count: usize,
@@ -17,37 +15,25 @@ pub fn read_digits(s: &[u8], at: usize, width: usize) -> Digits
     requires { (at ≤ length s.now) × (width ≤ digit_limit) }
     ensures { DigitsFound s.now at width result }
 {
-    let mut n = 0;
-    let mut v: u64 = 0;
-    while n < width {
-        let p = at + n;
-        if p == s.len() {
-            return Digits { count: n, value: v };
+    let part = &s[at..at + width.min(s.len() - at)];
+    let mut value = 0;
+    for (count, b) in part.iter().enumerate() {
+        if !b.is_ascii_digit() {
+            return Digits { count, value };
         }
-        let b = s[p];
-        if b < b'0' {
-            return Digits { count: n, value: v };
-        }
-        if b'9' < b {
-            return Digits { count: n, value: v };
-        }
-        v = v * 10 + (b - b'0') as u64;
-        n += 1;
+        value = value * 10 + u64::from(b - b'0');
     }
-    Digits { count: n, value: v }
+    Digits {
+        count: part.len(),
+        value,
+    }
 }
 
 // How many digits a decimal has.
 pub fn decimal_length(v: u32) -> usize
     ensures { result ≡ length (decimal v) }
 {
-    let mut rest = v;
-    let mut n = 1;
-    while 10 <= rest {
-        rest = rest / 10;
-        n += 1;
-    }
-    n
+    v.max(1).ilog10() as usize + 1
 }
 
 // Writes a decimal at a place, and answers the place after it.
@@ -56,10 +42,11 @@ pub fn put_decimal(out: &mut [u8], at: usize, v: u64) -> usize
     ensures { Wrote out.old out.new at result (decimal v) }
 {
     if v < 10 {
-        out[at] = (ZERO + v) as u8;
-        return at + 1;
+        out[at] = b'0' + v as u8;
+        at + 1
+    } else {
+        let p = put_decimal(out, at, v / 10);
+        out[p] = b'0' + (v % 10) as u8;
+        p + 1
     }
-    let p = put_decimal(out, at, v / 10);
-    out[p] = (ZERO + v % 10) as u8;
-    p + 1
 }

@@ -7,10 +7,7 @@ pub fn put_words(out: &mut [u8], at: usize, words: &[u8]) -> usize
     requires { at + length words.now ≤ length out.old }
     ensures { Wrote out.old out.new at result words.now }
 {
-    let mut i = 0;
-    while i < words.len() {
-        out[at + i] = words[i];
-        i += 1;
-    }
-    at + i
+    let end = at + words.len();
+    out[at..end].copy_from_slice(words);
+    end
 }

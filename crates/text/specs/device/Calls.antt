@@ -1,12 +1,10 @@
 -- A device of code and proofs: what the functions of the crate hand on, each fact by its name.
-use Rattle.std.specs.Prelude.{◌≡◌, Bool, true, false, List, [], ◌∷◌, ◌++◌, ℕ, ◌+◌, ◌≤◌, ◌<◌, length, take, drop, set}
+use Rattle.std.specs.Prelude.{◌≡◌, false, List, [], ◌∷◌, ◌++◌, ℕ, ◌+◌, ◌≤◌, ◌<◌, length, take, drop, set}
 use Rattle.std.proofs.lemmas.List.Edits.{sets}
 use Rattle.text.specs.declared.number.Digits.{Digits}
 use Rattle.text.specs.declared.lines.Closer.{Closer}
 use Rattle.text.specs.declared.lines.Cut.{Cut}
-use Rattle.text.specs.declared.lines.Cut.TheVariants.{Held, Closed, TooLong}
 use Rattle.text.specs.declared.cutter.Cutter.{Cutter}
-use Rattle.text.specs.declared.cutter.PieceCut.{PieceCut}
 use Rattle.text.specs.Number.{leading, digits_from}
 use Rattle.text.specs.Line.{field_limit}
 use Rattle.text.specs.Lines.{closed_by, cut_of}
@@ -36,16 +34,6 @@ pub record WroteWithin (room : ℕ) (before after : List ℕ) (at place : ℕ) (
 pub record ByteCut (closer : Closer) (limit n b : ℕ) (before after : List ℕ) (answer : Cut) : Type 0 where
   pub cut : answer ≡ cut_of closer limit (take n before ++ (b ∷ []))
   pub held : after ≡ set before n b
-
--- whether a byte is only held
-abbrev pub goes_on : Cut → Bool
-goes_on Held = true
-goes_on Closed = false
-goes_on TooLong = false
-
--- a piece was cut
-abbrev pub piece_with : Cut → List ℕ → ℕ → ℕ → PieceCut
-piece_with cut held count next = record { cut = cut; cutter = record { held = held; count = count }; next = next }
 
 -- a cutter that holds a line shorter than the limit and not closed, in its room
 pub record Holds (closer : Closer) (limit : ℕ) (c : Cutter) : Type 0 where

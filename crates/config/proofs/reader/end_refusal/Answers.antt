@@ -1,23 +1,30 @@
 -- `config::reader::end_refusal` meets its contract: by whether something was refused, then by whether all lines are passed.
 -- Assumes nothing.
+use mathlib.Core.Path.{◌≡◌, sym, ap, ◌∙◌}
+use mathlib.Core.Bool.{true, false, not}
 use native.Mathlib.Omega.{arith}
-use borrow.Author.Tests.{eq-eqb, ne_eqb, lt-ltb, le-ltb}
+use borrow.Author.Tests.{lt-ltb, le-ltb}
+use Rattle.std.specs.Prelude.{is_none}
 use Rattle.config.specs.Shape.{line_count}
 use Rattle.config.specs.Reader.{end_refusal}
 use Rattle.config.proofs.reader.end_refusal.Goals as goal
 
-pub returns-then-r-ne0 : goal.returns-then-r-ne0
+pub returns-then-is_some : goal.returns-then-is_some
 unfolding end_refusal
-returns-then-r-ne0 c = rw (ne_eqb c.args.r.refusal 0 c.if-r-ne0.true)
+returns-then-is_some c =
+    let some : is_none c.args.r.refusal ≡ false = ap not (sym c.is_some.ensures ∙ c.if-is_some.true) in
+    rw some
 
 pub returns-then-r-gt-LAST_LINE : goal.returns-then-r-gt-LAST_LINE
 unfolding end_refusal
 returns-then-r-gt-LAST_LINE c =
     let r = c.args.r in
-    rw (eq-eqb r.refusal 0 c.if-r-ne0.false, lt-ltb line_count r.line c.if-r-gt-LAST_LINE.true)
+    let none : is_none r.refusal ≡ true = ap not (sym c.is_some.ensures ∙ c.if-is_some.false) in
+    rw (none, lt-ltb line_count r.line (omega arith))
 
-pub returns : goal.returns
+pub returns-else-r-gt-LAST_LINE : goal.returns-else-r-gt-LAST_LINE
 unfolding end_refusal
-returns c =
+returns-else-r-gt-LAST_LINE c =
     let r = c.args.r in
-    rw (eq-eqb r.refusal 0 c.if-r-ne0.false, le-ltb line_count r.line (omega (arith, c.if-r-gt-LAST_LINE.false))) c.number_due.ensures
+    let none : is_none r.refusal ≡ true = ap not (sym c.is_some.ensures ∙ c.if-is_some.false) in
+    rw (none, le-ltb line_count r.line (omega arith), c.number_due.ensures)

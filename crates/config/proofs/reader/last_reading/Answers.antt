@@ -7,14 +7,14 @@ use borrow.Author.Tests.{lt-ltb, le-ltb}
 use Rattle.config.specs.Reader.{malformed_if}
 use Rattle.config.proofs.reader.last_reading.Goals as goal
 
-pub returns-then-count-eq0 : goal.returns-then-count-eq0
+pub returns-then-state-eq0 : goal.returns-then-state-eq0
 unfolding malformed_if
-returns-then-count-eq0 c =
+returns-then-state-eq0 c =
     let r = c.args.state in
-    ap (λ (t : Bool). malformed_if t r.reading) (sym (le-ltb 0 r.cutter.count (omega (arith, c.if-count-eq0.true))))
+    ap (λ (t : Bool). malformed_if t r.reading) (sym (le-ltb 0 r.cutter.count (omega arith)))
 
-pub returns : goal.returns
+pub returns-else-state-eq0 : goal.returns-else-state-eq0
 unfolding malformed_if
-returns c =
+returns-else-state-eq0 c =
     let r = c.args.state in
-    c.malformed.ensures ∙ ap (λ (t : Bool). malformed_if t r.reading) (sym (lt-ltb 0 r.cutter.count (omega (arith, c.if-count-eq0.false))))
+    c.malformed.ensures ∙ ap (λ (t : Bool). malformed_if t r.reading) (sym (lt-ltb 0 r.cutter.count (omega arith)))

@@ -18,5 +18,5 @@ number_of-requires c =
 pub returns-then-in_range : goal.returns-then-in_range
 returns-then-in_range c = c.number_of.ensures ∙ sym (number_due_here c.args.line (sym c.in_range.ensures ∙ c.if-in_range.true))
 
-pub returns : goal.returns
-returns c = sym (number_due_after c.args.line (sym c.in_range.ensures ∙ c.if-in_range.false))
+pub returns-else-in_range : goal.returns-else-in_range
+returns-else-in_range c = sym (number_due_after c.args.line (sym c.in_range.ensures ∙ c.if-in_range.false))

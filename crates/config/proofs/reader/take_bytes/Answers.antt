@@ -18,16 +18,6 @@ returns-in-Held c =
     let s : Reader = record { reading = l.reading; cutter = l.cutter } in
     turn_held a.state a.portion.now l.i s l.invariant more k.result k.ensures c.in-Held.is
 
-pub on_held-reading-requires : goal.on_held-reading-requires
-on_held-reading-requires c =
-    let a = c.args in
-    let l = c.loop-i in
-    let more = c.loop-i-test.true in
-    let k = c.cut-piece in
-    let s : Reader = record { reading = l.reading; cutter = l.cutter } in
-    let piece = piece_cut a.state a.portion.now l.i s l.invariant more k.result k.ensures in
-    omega (arith, piece.fits, piece.room)
-
 pub loop-i-smaller : goal.loop-i-smaller
 loop-i-smaller c =
     let a = c.args in
@@ -44,8 +34,8 @@ loop-i-preserved c =
     let more = c.loop-i-test.true in
     let k = c.cut-piece in
     let s : Reader = record { reading = l.reading; cutter = l.cutter } in
-    let t = c.on_held-reading in
-    rw c.empty-cutter.ensures (turn_closed a.state a.portion.now l.i s l.invariant more k.result k.ensures c.in-Closed.is t.result t.ensures)
+    let t = c.on_line-reading in
+    rw c.empty-cutter.ensures (turn_closed a.state a.portion.now l.i s l.invariant more k.result k.ensures c.in-Closed.is t.result (rw c.line.ensures at t.ensures))
 
 pub returns-in-TooLong : goal.returns-in-TooLong
 returns-in-TooLong c =
@@ -54,7 +44,7 @@ returns-in-TooLong c =
     let more = c.loop-i-test.true in
     let k = c.cut-piece in
     let s : Reader = record { reading = l.reading; cutter = l.cutter } in
-    rw (c.empty-cutter-in-TooLong.ensures, c.malformed-reading.ensures) (turn_long a.state a.portion.now l.i s l.invariant more k.result k.ensures c.in-TooLong.is)
+    rw (c.empty.ensures, c.malformed.ensures) (turn_long a.state a.portion.now l.i s l.invariant more k.result k.ensures c.in-TooLong.is)
 
 pub returns : goal.returns
 returns c =

@@ -1,19 +1,15 @@
+-- `text::bytes::put_le` meets its contract: the library's eight bytes, as many as are asked for.
+-- Assumes nothing.
 use native.Mathlib.Omega.{arith}
-use mathlib.Core.Path.{sym, ◌∙◌}
-use lib.ListN.{length-set}
-use Rattle.text.proofs.ByteLaws.{put_more, put_none}
+use Rattle.text.proofs.ByteLaws.{bytes_length, lowest_bytes}
+use Rattle.text.proofs.StoreLaws.{sets_part}
+use Rattle.text.specs.Bytes.{bytes_le}
 use Rattle.text.proofs.bytes.put_le.Goals as goal
-
-pub loop-left-preserved : goal.loop-left-preserved
-loop-left-preserved c =
-    let l = c.loop-left in
-    record {
-      end = omega arith;
-      long = simp length-set (omega arith);
-      whole = put_more l.s l.place l.left l.rest (omega arith) ∙ l.invariant.whole;
-    }
 
 pub returns : goal.returns
 returns c =
-    let l = c.loop-left in
-    sym (put_none l.s l.place l.left l.rest (omega arith)) ∙ l.invariant.whole
+    let a = c.args in
+    let long = bytes_length a.n a.v in
+    let low = lowest_bytes a.n a.v (omega arith) in
+    let part = rw long at (sets_part a.s.now a.at (bytes_le a.n a.v) (omega arith)) in
+    rw (c.copy_from_slice.ensures.after, c.to_le_bytes.ensures, low) part

@@ -24,13 +24,13 @@ bounds-out-p t c =
     let m = digit_longer c.args.v (omega arith) (omega arith) in
     rw (e.output, length-sets) (omega (arith, m, e.place_after, c.requires))
 
-pub overflow_add-result-2 : goal.overflow_add-result-2
-overflow_add-result-2 t c =
+pub overflow_add-result-else-v-lt10 : goal.overflow_add-result-else-v-lt10
+overflow_add-result-else-v-lt10 t c =
     let m = digit_longer c.args.v (omega arith) (omega arith) in
     omega (arith, m, c.put_decimal-p.ensures.place_after, c.requires)
 
-pub returns : goal.returns
-returns t c =
+pub returns-else-v-lt10 : goal.returns-else-v-lt10
+returns-else-v-lt10 t c =
     let a = c.args in
     let e = c.put_decimal-p.ensures in
     let m = digit_longer a.v (omega arith) (omega arith) in

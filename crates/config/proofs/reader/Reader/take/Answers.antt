@@ -7,15 +7,15 @@ use borrow.Author.Tests.{lt-ltb, le-ltb}
 use Rattle.config.specs.Reader.{line_limit, taken_if}
 use Rattle.config.proofs.reader.Reader.take.Goals as goal
 
-pub returns-then-count-lt-LINE_LIMIT : goal.returns-then-count-lt-LINE_LIMIT
+pub returns-then-self-lt-LINE_LIMIT : goal.returns-then-self-lt-LINE_LIMIT
 unfolding taken_if
-returns-then-count-lt-LINE_LIMIT c =
+returns-then-self-lt-LINE_LIMIT c =
     let a = c.args in
-    c.take_bytes.ensures ∙ ap (λ (t : Bool). taken_if t a.self a.portion.now) (sym (lt-ltb a.self.cutter.count line_limit (omega (arith, c.if-count-lt-LINE_LIMIT.true))))
+    c.take_bytes.ensures ∙ ap (λ (t : Bool). taken_if t a.self a.portion.now) (sym (lt-ltb a.self.cutter.count line_limit (omega arith)))
 
 pub returns : goal.returns
 unfolding taken_if
 returns c =
     let a = c.args in
-    rw (c.empty-cutter.ensures, c.malformed-reading.ensures)
-    (ap (λ (t : Bool). taken_if t a.self a.portion.now) (sym (le-ltb a.self.cutter.count line_limit (omega (arith, c.if-count-lt-LINE_LIMIT.false)))))
+    rw (c.empty.ensures, c.malformed.ensures)
+    (ap (λ (t : Bool). taken_if t a.self a.portion.now) (sym (le-ltb a.self.cutter.count line_limit (omega arith))))
