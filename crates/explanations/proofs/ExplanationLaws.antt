@@ -10,6 +10,7 @@ use Rattle.phase.specs.Settings.{settings_refusal, trip_level}
 use Rattle.phase.specs.State.{valid}
 use Rattle.phase.specs.Tick.{next_state}
 use Rattle.phase.proofs.Accepted.{tick_accepted}
+use Rattle.relay.specs.declared.sample.Sample.{Sample}
 use Rattle.relay.specs.declared.state.RelayState.{RelayState}
 use Rattle.relay.specs.State.{phase_of, valid_relay}
 use Rattle.relay.proofs.RelayLaws.{each_valid}
@@ -30,19 +31,19 @@ phase_explained name settings state g block e v b =
     let accepted = why_allowed settings state block e v b in
     rw (why_accepted settings state g block accepted, tick_accepted settings state g (why_tick_accepted settings state block accepted))
 
-abbrev pub explained_lines : Settings → RelayState → ℕ → ℕ → ℕ → ℕ → List ℕ
-explained_lines settings relay l1 l2 l3 block =
-    reason_line (bytes_of "L1: ") settings (phase_of relay 0) l1 block
-    ++ reason_line (bytes_of "L2: ") settings (phase_of relay 1) l2 block
-    ++ reason_line (bytes_of "L3: ") settings (phase_of relay 2) l3 block
+abbrev pub explained_lines : Settings → RelayState → Sample → List ℕ
+explained_lines settings relay x =
+    reason_line (bytes_of "L1: ") settings (phase_of relay 0) x.l1 x.block
+    ++ reason_line (bytes_of "L2: ") settings (phase_of relay 1) x.l2 x.block
+    ++ reason_line (bytes_of "L3: ") settings (phase_of relay 2) x.l3 x.block
 
-pub lines_explained : (settings : Settings) (relay : RelayState) (l1 l2 l3 block : ℕ)
-    → settings_refusal settings ≡ 0 → valid_relay settings relay ≡ true → block ≤ 1
-    → explanation settings relay l1 l2 l3 block ≡ explained_lines settings relay l1 l2 l3 block
+pub lines_explained : (settings : Settings) (relay : RelayState) (x : Sample)
+    → settings_refusal settings ≡ 0 → valid_relay settings relay ≡ true → x.block ≤ 1
+    → explanation settings relay x ≡ explained_lines settings relay x
 unfolding explanation
-lines_explained settings relay l1 l2 l3 block e v b =
+lines_explained settings relay x e v b =
     let each = each_valid settings relay v in
-    let first = phase_explained (bytes_of "L1: ") settings (phase_of relay 0) l1 block e each.l1 b in
-    let second = phase_explained (bytes_of "L2: ") settings (phase_of relay 1) l2 block e each.l2 b in
-    let third = phase_explained (bytes_of "L3: ") settings (phase_of relay 2) l3 block e each.l3 b in
+    let first = phase_explained (bytes_of "L1: ") settings (phase_of relay 0) x.l1 x.block e each.l1 b in
+    let second = phase_explained (bytes_of "L2: ") settings (phase_of relay 1) x.l2 x.block e each.l2 b in
+    let third = phase_explained (bytes_of "L3: ") settings (phase_of relay 2) x.l3 x.block e each.l3 b in
     rw (first, second, third)

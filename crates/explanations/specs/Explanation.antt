@@ -1,16 +1,15 @@
 -- The explanation of a tick (02, E2: "tell why it did or didn't trip") as text: a line for each phase.
-use Rattle.std.specs.Prelude.{ℕ, ◌+◌, List, [], ◌++◌}
+use Rattle.std.specs.Prelude.{ℕ, ◌+◌, List, [], ◌++◌, Result, Ok, Err}
 use Prim.Native.String.{String}
 use Rattle.phase.specs.declared.settings.Settings.{Settings}
 use Rattle.phase.specs.declared.state.PhaseState.{PhaseState}
 use Rattle.phase.specs.Settings.{trip_level}
 use Rattle.phase.specs.Tick.{tick_answer}
+use Rattle.relay.specs.declared.sample.Sample.{Sample}
 use Rattle.relay.specs.declared.state.RelayState.{RelayState}
 use Rattle.relay.specs.State.{phase_of}
 use Rattle.text.specs.Number.{decimal, decimal_room}
 use Rattle.text.specs.Words.{bytes_of}
-use Rattle.why.specs.declared.answer.Explained.{Explained}
-use Rattle.why.specs.declared.answer.Explained.TheVariants.{Because, Refused}
 use Rattle.why.specs.declared.reason.Reason.{Reason}
 use Rattle.why.specs.declared.reason.Reason.TheVariants.{OperationOff, NotStarted, StartOnly, TooFewTicks, SumBelowLevel, Blocked, Tripped}
 use Rattle.why.specs.Answer.{why_answer}
@@ -43,9 +42,9 @@ numbers_text sample after level =
     named_number "\tsample " sample ++ state_text after ++ named_number ", trip level " level ++ bytes_of "\n"
 
 -- the line of a phase; a refused explanation has none
-abbrev pub line_by : Explained → List ℕ → ℕ → PhaseState → ℕ → List ℕ
-line_by (Because reason) name sample after level = name ++ reason_text reason ++ numbers_text sample after level
-line_by (Refused n) name sample after level = []
+abbrev pub line_by : Result Reason ℕ → List ℕ → ℕ → PhaseState → ℕ → List ℕ
+line_by (Ok reason) name sample after level = name ++ reason_text reason ++ numbers_text sample after level
+line_by (Err n) name sample after level = []
 
 -- of the tick that settings, state and sample give, under a block
 abbrev pub phase_line : List ℕ → Settings → PhaseState → ℕ → ℕ → List ℕ
@@ -53,11 +52,11 @@ phase_line name settings state g block =
     line_by (why_answer settings state g block) name g (tick_answer settings state g).state (trip_level settings)
 
 -- L1, L2, L3, by the relay's state before the tick
-unfoldable pub explanation : Settings → RelayState → ℕ → ℕ → ℕ → ℕ → List ℕ
-explanation settings relay l1 l2 l3 block =
-    phase_line (bytes_of "L1: ") settings (phase_of relay 0) l1 block
-    ++ phase_line (bytes_of "L2: ") settings (phase_of relay 1) l2 block
-    ++ phase_line (bytes_of "L3: ") settings (phase_of relay 2) l3 block
+unfoldable pub explanation : Settings → RelayState → Sample → List ℕ
+explanation settings relay sample =
+    phase_line (bytes_of "L1: ") settings (phase_of relay 0) sample.l1 sample.block
+    ++ phase_line (bytes_of "L2: ") settings (phase_of relay 1) sample.l2 sample.block
+    ++ phase_line (bytes_of "L3: ") settings (phase_of relay 2) sample.l3 sample.block
 
 -- ---- how much room that takes
 

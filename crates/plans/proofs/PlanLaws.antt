@@ -32,19 +32,6 @@ use Rattle.plans.specs.device.Memo.{top_sample, memo_of}
 use Rattle.plans.specs.device.Plan.{no_count, level_of, wait_of, on_plan, off_plan, plan_by, plan_of}
 use Rattle.plans.specs.device.Course.{idle_up_to, course_by, TurnReady, count_to, after_started_by, after_idle_by, due_by, turn_by, turned_of}
 
--- ---- a plan has its settings
-
-settings_by : (kind : Kind) (settings : Settings) → (plan_by kind settings).settings ≡ settings
-settings_by Off settings = refl
-settings_by (On timing) settings = refl
-
-pub plan_settings : (settings : Settings) → (plan_of settings).settings ≡ settings
-unfolding plan_of
-plan_settings settings = settings_by (kind_of settings.operation) settings
-
-pub plan_is : (plan : Plan) (settings : Settings) → plan ≡ plan_of settings → plan.settings ≡ settings
-plan_is plan settings e = ap (λ (p : Plan). p.settings) e ∙ plan_settings settings
-
 -- ---- counts and thresholds
 
 count_up_law : (n : ℕ) → n ≤ run_limit → count_to run_limit n ≡ count_up n
@@ -66,9 +53,9 @@ on_started timing settings state g pos = go state.started
     go true = above (95 * settings.start_current) g (omega arith)
     go false = refl
 
-off_idle : (settings : Settings) (was : Bool) (g : ℕ) → g ≤ top_sample → ltb (idle_up_to (off_plan settings) was) g ≡ false
-off_idle settings true g h = le-ltb top_sample g h
-off_idle settings false g h = le-ltb top_sample g h
+off_idle : (was : Bool) (g : ℕ) → g ≤ top_sample → ltb (idle_up_to off_plan was) g ≡ false
+off_idle true g h = le-ltb top_sample g h
+off_idle false g h = le-ltb top_sample g h
 
 -- ---- a started tick
 
@@ -122,8 +109,8 @@ after_idle_law (Curve Ansi) settings g state kind h v =
     let never : leb no_count (count_up state.drop) ≡ false = lt-leb no_count (count_up state.drop) (omega arith) in
     rw (new, never, zero_leb (count_up state.drop))
 
-off_stays : (settings : Settings) (loss : ℕ) (state : PhaseState) → valid_for Off state ≡ true → after_idle_by (off_plan settings) loss state ≡ clear_state
-off_stays settings loss state v =
+off_stays : (loss : ℕ) (state : PhaseState) → valid_for Off state ≡ true → after_idle_by off_plan loss state ≡ clear_state
+off_stays loss state v =
     rw (off_is_clear state v, zero-sub loss)
 
 -- ---- the tick
@@ -156,7 +143,7 @@ on_turns timing false settings state g kind limits v =
 
 by_kind : (kind : Kind) (settings : Settings) (state : PhaseState) (g : ℕ) → kind_of settings.operation ≡ kind → 0 < settings.start_current → g ≤ top_sample → InLimits settings state → valid_for kind state ≡ true → turn_by (plan_by kind settings) (memo_of settings g) (ltb (idle_up_to (plan_by kind settings) state.started) g) state ≡ tick_by kind (started settings state g) settings state g
 by_kind Off settings state g kind pos h limits v =
-    rw (off_idle settings state.started g h, off_stays settings (memo_of settings g).loss state v)
+    rw (off_idle state.started g h, off_stays (memo_of settings g).loss state v)
 by_kind (On timing) settings state g kind pos h limits v =
     rw (on_started timing settings state g pos) (on_turns timing (started settings state g) settings state g kind limits v)
 
@@ -166,13 +153,13 @@ plan_turns settings state g pos h v =
     by_kind (kind_of settings.operation) settings state g refl pos h (valid_in_limits settings state v) (valid_kind settings state v)
 
 -- the branch that the code takes
-pub turned_by : (plan : Plan) (course : Course) (memo : Memo) (b : Bool) (g : ℕ) → TurnReady plan course → g ≤ top_sample → memo ≡ memo_of plan.settings g → ltb course.idle_to g ≡ b → turn_by plan memo b course.state ≡ turned_of plan.settings course.state g
-turned_by plan course memo b g ready h m e =
+pub turned_by : (settings : Settings) (plan : Plan) (course : Course) (memo : Memo) (b : Bool) (g : ℕ) → InRange settings → plan ≡ plan_of settings → TurnReady settings course → g ≤ top_sample → memo ≡ memo_of settings g → ltb course.idle_to g ≡ b → turn_by plan memo b course.state ≡ turned_of settings course.state g
+turned_by settings plan course memo b g range planned ready h m e =
     let state : PhaseState = course.state in
     ap (λ (x : Bool). turn_by plan memo x state) (sym e ∙ ap (λ (x : ℕ). ltb x g) ready.remembers.idle)
-    ∙ ap (λ (x : Memo). turn_by plan x (ltb (idle_up_to (plan_of plan.settings) state.started) g) state) m
-    ∙ ap (λ (p : Plan). turn_by p (memo_of plan.settings g) (ltb (idle_up_to (plan_of plan.settings) state.started) g) state) ready.planned
-    ∙ plan_turns plan.settings state g (omega (arith, ready.range.start_low)) h ready.valid
+    ∙ ap (λ (x : Memo). turn_by plan x (ltb (idle_up_to (plan_of settings) state.started) g) state) m
+    ∙ ap (λ (p : Plan). turn_by p (memo_of settings g) (ltb (idle_up_to (plan_of settings) state.started) g) state) planned
+    ∙ plan_turns settings state g (omega (arith, range.start_low)) h ready.valid
 
 -- ---- how large the numbers of a tick are
 

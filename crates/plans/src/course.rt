@@ -1,13 +1,13 @@
 // A phase on its way from tick to tick by a plan.
 ghost use Rattle.std.specs.Prelude.{◌≡◌, ◌+◌, ◌*◌, ◌-◌, ◌≤◌, min, cond, leb};
 ghost use Rattle.phase.specs.State.{run_limit};
-ghost use Rattle.phase.specs.device.Ranges.{InRange};
+ghost use Rattle.phase.specs.declared.settings.Settings.{Settings};
 ghost use Rattle.plans.specs.device.Course.{course_of, count_to, idle_up_to, after_started_by, after_idle_by, due_by};
 ghost use Rattle.plans.specs.device.Course.{turned_of, TurnReady};
-ghost use Rattle.plans.specs.device.Plan.{plan_of};
 
 use crate::memo::{Memo, memo_at_setting, next_memo};
 use crate::plan::Plan;
+use crate::planned::Planned;
 use phase::PhaseState;
 
 #[derive(Clone, Copy)]
@@ -37,39 +37,23 @@ fn idle_to(plan: Plan, started: bool) -> u32
 }
 
 // A course that begins at a state.
-pub fn course_from(plan: Plan, state: PhaseState) -> Course
-    requires { InRange plan.settings × (plan ≡ plan_of plan.settings) }
-    ensures { result ≡ course_of plan.settings state (100 * plan.settings.start_current) }
+pub fn course_from(planned: Planned, state: PhaseState) -> Course
+    ensures { let settings : Settings = planned.checked.settings in
+        result ≡ course_of settings state (100 * settings.start_current) }
 {
-    let memo = memo_at_setting(plan.settings);
-    let idle_to = idle_to(plan, state.started);
     Course {
         state,
-        memo,
-        idle_to,
+        memo: memo_at_setting(planned.checked),
+        idle_to: idle_to(planned.plan, state.started),
     }
 }
 
-// A count that goes up by 1 and stops at its limit.
+// A count that goes up by 1 and stops at its limit. No `min`: a count that is above its limit stays.
 fn count_to(limit: u32, count: u32) -> u32
     requires { count ≤ run_limit }
     ensures { result ≡ count_to limit count }
 {
     if count < limit { count + 1 } else { count }
-}
-
-fn filled(sum: u64, gain: u64, level: u64) -> u64
-    requires { (sum ≤ 1500000000000) × (gain ≤ 1000000000000) }
-    ensures { result ≡ min (sum + gain) level }
-{
-    let total = sum + gain;
-    if total < level { total } else { level }
-}
-
-fn drained(sum: u64, loss: u64) -> u64
-    ensures { result ≡ sum - loss }
-{
-    if loss < sum { sum - loss } else { 0 }
 }
 
 // What is left of a sum, or of a run, with the new drop.
@@ -83,11 +67,9 @@ fn after_started(plan: Plan, gain: u64, state: PhaseState) -> PhaseState
     requires { (state.sum ≤ 1500000000000) × (gain ≤ 1000000000000) × (state.run ≤ run_limit) }
     ensures { result ≡ after_started_by plan gain state }
 {
-    let sum = filled(state.sum, gain, plan.level);
-    let run = count_to(PhaseState::RUN_LIMIT, state.run);
     PhaseState {
-        sum,
-        run,
+        sum: (state.sum + gain).min(plan.level),
+        run: count_to(PhaseState::RUN_LIMIT, state.run),
         drop: 0,
         started: true,
     }
@@ -98,12 +80,9 @@ fn after_idle(plan: Plan, loss: u64, state: PhaseState) -> PhaseState
     ensures { result ≡ after_idle_by plan loss state }
 {
     let drop = count_to(plan.drop_limit, state.drop);
-    let left = drained(state.sum, loss);
-    let sum = kept(plan.sum_reset, drop, left);
-    let run = kept(plan.run_reset, drop, state.run as u64) as u32;
     PhaseState {
-        sum,
-        run,
+        sum: kept(plan.sum_reset, drop, state.sum.saturating_sub(loss)),
+        run: kept(plan.run_reset, drop, state.run as u64) as u32,
         drop,
         started: false,
     }
@@ -116,34 +95,31 @@ fn is_due(plan: Plan, after: PhaseState) -> bool
 }
 
 // One tick.
-pub fn turn(plan: Plan, course: Course, sample: u32) -> Turned
-    requires { TurnReady plan course }
-    ensures { result ≡ turned_of plan.settings course.state sample }
+pub fn turn(planned: Planned, course: Course, sample: u32) -> Turned
+    requires { TurnReady planned.checked.settings course }
+    ensures { result ≡ turned_of planned.checked.settings course.state sample }
 {
+    let plan = planned.plan;
     let state = course.state;
-    let memo = next_memo(plan.settings, course.memo, sample);
+    let memo = next_memo(planned.checked, course.memo, sample);
     if course.idle_to < sample {
         let after = after_started(plan, memo.gain, state);
-        let trip = is_due(plan, after);
-        let course = Course {
-            state: after,
-            memo,
-            idle_to: plan.stays_above,
-        };
         Turned {
-            course,
+            course: Course {
+                state: after,
+                memo,
+                idle_to: plan.stays_above,
+            },
             start: true,
-            trip,
+            trip: is_due(plan, after),
         }
     } else {
-        let after = after_idle(plan, memo.loss, state);
-        let course = Course {
-            state: after,
-            memo,
-            idle_to: plan.starts_above,
-        };
         Turned {
-            course,
+            course: Course {
+                state: after_idle(plan, memo.loss, state),
+                memo,
+                idle_to: plan.starts_above,
+            },
             start: false,
             trip: false,
         }

@@ -4,3 +4,6 @@
 pub mod course;
 pub mod memo;
 pub mod plan;
+pub mod planned;
+
+pub use planned::Planned;

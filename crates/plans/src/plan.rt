@@ -1,13 +1,13 @@
 // What the settings come to, so that a tick asks for no group of operations.
 ghost use Rattle.std.specs.Prelude.{◌≡◌};
-ghost use Rattle.phase.specs.device.Ranges.{InRange};
 ghost use Rattle.plans.specs.device.Plan.{level_of, delay_of, sum_reset_by, sum_reset_of, run_reset_of};
-ghost use Rattle.plans.specs.device.Plan.{on_plan, off_plan, plan_of};
+ghost use Rattle.plans.specs.device.Plan.{on_plan, off_plan, plan_by, plan_of};
 
 use crate::memo::TOP_SAMPLE;
+use crate::planned::Planned;
 use phase::operation::{Kind, ResetRule, Timing, kind_of};
 use phase::settings::trip_level;
-use phase::{PhaseState, Settings};
+use phase::{CheckedSettings, PhaseState, Settings};
 
 // No count gets so far.
 const NO_COUNT: u32 = PhaseState::RUN_LIMIT + 1;
@@ -16,7 +16,6 @@ const NO_COUNT: u32 = PhaseState::RUN_LIMIT + 1;
 // the drops that clear the sum and the run, and where drop stops.
 #[derive(Clone, Copy)]
 pub struct Plan {
-    pub settings: Settings,
     pub starts_above: u32,
     pub stays_above: u32,
     pub level: u64,
@@ -77,32 +76,26 @@ fn run_reset_of(timing: Timing, settings: Settings) -> u32
     }
 }
 
-fn on_plan(timing: Timing, settings: Settings) -> Plan
-    requires { InRange settings }
-    ensures { result ≡ on_plan timing settings }
+fn on_plan(timing: Timing, checked: CheckedSettings) -> Plan
+    ensures { result ≡ on_plan timing checked.settings }
 {
-    let level = level_of(timing, settings);
-    let delay = delay_of(timing, settings);
-    let sum_reset = sum_reset_of(timing, settings);
-    let run_reset = run_reset_of(timing, settings);
+    let settings = checked.settings;
     Plan {
-        settings,
         starts_above: 100 * settings.start_current,
         stays_above: 95 * settings.start_current - 1,
-        level,
-        delay,
-        sum_reset,
-        run_reset,
+        level: level_of(timing, settings),
+        delay: delay_of(timing, settings),
+        sum_reset: sum_reset_of(timing, settings),
+        run_reset: run_reset_of(timing, settings),
         drop_limit: PhaseState::RUN_LIMIT,
     }
 }
 
 // Off starts at no sample, and counts nothing.
-fn off_plan(settings: Settings) -> Plan
-    ensures { result ≡ off_plan settings }
+fn off_plan() -> Plan
+    ensures { result ≡ off_plan }
 {
     Plan {
-        settings,
         starts_above: TOP_SAMPLE,
         stays_above: TOP_SAMPLE,
         level: 0,
@@ -113,13 +106,18 @@ fn off_plan(settings: Settings) -> Plan
     }
 }
 
-pub fn plan_of(settings: Settings) -> Plan
-    requires { InRange settings }
-    ensures { result ≡ plan_of settings }
+fn plan_by(kind: Kind, checked: CheckedSettings) -> Plan
+    ensures { result ≡ plan_by kind checked.settings }
 {
-    let kind = kind_of(settings.operation);
     match kind {
-        Kind::Off => off_plan(settings),
-        Kind::On(timing) => on_plan(timing, settings),
+        Kind::Off => off_plan(),
+        Kind::On(timing) => on_plan(timing, checked),
     }
+}
+
+pub fn plan_of(checked: CheckedSettings) -> Planned
+    ensures { (result.checked ≡ checked) × (result.plan ≡ plan_of checked.settings) }
+{
+    let plan = plan_by(kind_of(checked.settings.operation), checked);
+    Planned { checked, plan }
 }

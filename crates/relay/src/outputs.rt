@@ -1,6 +1,6 @@
 // The output byte of a tick.
-ghost use Rattle.std.specs.Prelude.{◌≡◌, ◌≤◌};
-ghost use Rattle.relay.specs.Outputs.{bit, general, output_byte, start_bits, trip_bits};
+ghost use Rattle.std.specs.Prelude.{false, ◌≡◌, ◌*◌, ◌≤◌, get_or};
+ghost use Rattle.relay.specs.Outputs.{bit, general, output_byte, phase_bits};
 
 pub fn bit(on: bool, value: u8) -> u8
     ensures { (result ≡ bit on value) × (result ≤ value) }
@@ -8,40 +8,27 @@ pub fn bit(on: bool, value: u8) -> u8
     if on { value } else { 0 }
 }
 
-fn start_bits(l1: bool, l2: bool, l3: bool) -> u8
-    ensures { (result ≡ start_bits l1 l2 l3) × (result ≤ 7) }
+// The bits of L1, L2 and L3, of which L1 has the first.
+fn phase_bits(on: [bool; 3], first: u8) -> u8
+    requires { first ≤ 8 }
+    ensures { (result ≡ phase_bits first (get_or on 0 false) (get_or on 1 false) (get_or on 2 false))
+        × (result ≤ 7 * first) }
 {
-    bit(l1, 1) + bit(l2, 2) + bit(l3, 4)
+    bit(on[0], first) + bit(on[1], 2 * first) + bit(on[2], 4 * first)
 }
 
-fn trip_bits(l1: bool, l2: bool, l3: bool) -> u8
-    ensures { (result ≡ trip_bits l1 l2 l3) × (result ≤ 56) }
+fn general(on: [bool; 3], block: u8) -> bool
+    ensures { result ≡ general (get_or on 0 false) (get_or on 1 false) (get_or on 2 false) block }
 {
-    bit(l1, 8) + bit(l2, 16) + bit(l3, 32)
+    (on[0] | on[1] | on[2]) & (block == 0)
 }
 
-fn general(l1: bool, l2: bool, l3: bool, block: u8) -> bool
-    ensures { result ≡ general l1 l2 l3 block }
+// The starts and trips of L1, L2 and L3, and the general ones, which a block turns off.
+pub(crate) fn output_byte(starts: [bool; 3], trips: [bool; 3], block: u8) -> u8
+    ensures { result ≡ output_byte (get_or starts 0 false) (get_or starts 1 false) (get_or starts 2 false)
+        (get_or trips 0 false) (get_or trips 1 false) (get_or trips 2 false) block }
 {
-    (l1 | l2 | l3) & (block == 0)
-}
-
-// The phases' starts and trips, and the general ones, which a block turns off.
-pub(crate) fn output_byte(
-    start1: bool,
-    start2: bool,
-    start3: bool,
-    trip1: bool,
-    trip2: bool,
-    trip3: bool,
-    block: u8,
-) -> u8
-    ensures { result ≡ output_byte start1 start2 start3 trip1 trip2 trip3 block }
-{
-    let start = general(start1, start2, start3, block);
-    let trip = general(trip1, trip2, trip3, block);
-    start_bits(start1, start2, start3)
-        + trip_bits(trip1, trip2, trip3)
-        + bit(start, 64)
-        + bit(trip, 128)
+    let start = general(starts, block);
+    let trip = general(trips, block);
+    phase_bits(starts, 1) + phase_bits(trips, 8) + bit(start, 64) + bit(trip, 128)
 }

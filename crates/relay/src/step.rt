@@ -1,13 +1,13 @@
 // The three phases on their way from tick to tick by a plan.
 ghost use Rattle.std.specs.Prelude.{◌≡◌};
-ghost use Rattle.phase.specs.device.Ranges.{InRange};
-ghost use Rattle.plans.specs.device.Plan.{plan_of};
+ghost use Rattle.phase.specs.declared.settings.Settings.{Settings};
 ghost use Rattle.relay.specs.device.Step.{StepReady, courses_from, relay_of, relay_step};
 
 use crate::outputs::output_byte;
+use crate::sample::Sample;
 use crate::state::RelayState;
+use plans::Planned;
 use plans::course::{Course, course_from, turn};
-use plans::plan::Plan;
 
 #[derive(Clone, Copy)]
 pub struct Courses {
@@ -22,45 +22,43 @@ pub struct Stepped {
     pub outputs: u8,
 }
 
-pub fn courses_from(plan: Plan, relay: RelayState) -> Courses
-    requires { InRange plan.settings × (plan ≡ plan_of plan.settings) }
-    ensures { result ≡ courses_from plan.settings relay }
+pub fn courses_from(planned: Planned, relay: RelayState) -> Courses
+    ensures { result ≡ courses_from planned.checked.settings relay }
 {
-    let l1 = course_from(plan, relay.phases[0]);
-    let l2 = course_from(plan, relay.phases[1]);
-    let l3 = course_from(plan, relay.phases[2]);
-    Courses { l1, l2, l3 }
+    Courses {
+        l1: course_from(planned, relay.phases[0]),
+        l2: course_from(planned, relay.phases[1]),
+        l3: course_from(planned, relay.phases[2]),
+    }
 }
 
 pub fn relay_of(courses: Courses) -> RelayState
     ensures { result ≡ relay_of courses }
 {
-    let l1 = courses.l1.state;
-    let l2 = courses.l2.state;
-    let l3 = courses.l3.state;
     RelayState {
-        phases: [l1, l2, l3],
+        phases: [courses.l1.state, courses.l2.state, courses.l3.state],
     }
 }
 
-pub fn step(plan: Plan, courses: Courses, l1: u32, l2: u32, l3: u32, block: u8) -> Stepped
-    requires { StepReady plan courses }
-    ensures { result ≡ relay_step plan.settings (relay_of courses) l1 l2 l3 block }
+pub fn step(planned: Planned, courses: Courses, sample: Sample) -> Stepped
+    requires { StepReady planned.checked.settings courses }
+    ensures { let settings : Settings = planned.checked.settings in
+        result ≡ relay_step settings (relay_of courses) sample.l1 sample.l2 sample.l3 sample.block }
 {
-    let a = turn(plan, courses.l1, l1);
-    let b = turn(plan, courses.l2, l2);
-    let c = turn(plan, courses.l3, l3);
-    let outputs = output_byte(a.start, b.start, c.start, a.trip, b.trip, c.trip, block);
-    let after1 = a.course;
-    let after2 = b.course;
-    let after3 = c.course;
-    let after = Courses {
-        l1: after1,
-        l2: after2,
-        l3: after3,
-    };
+    let a = turn(planned, courses.l1, sample.l1);
+    let b = turn(planned, courses.l2, sample.l2);
+    let c = turn(planned, courses.l3, sample.l3);
+    let outputs = output_byte(
+        [a.start, b.start, c.start],
+        [a.trip, b.trip, c.trip],
+        sample.block,
+    );
     Stepped {
-        courses: after,
+        courses: Courses {
+            l1: a.course,
+            l2: b.course,
+            l3: c.course,
+        },
         outputs,
     }
 }

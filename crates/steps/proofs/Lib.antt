@@ -1,2 +1,1 @@
 pub mod OutputLaws
-pub mod ProgressLaws

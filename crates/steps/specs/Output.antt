@@ -31,11 +31,11 @@ change_of number outputs before = cond (eqb outputs before) [] (change_line numb
 
 -- the record's row: the currents as they were read, the output byte of the tick
 abbrev pub record_row : ℕ → Row → ℕ → RecordRow
-record_row number x outputs = record { number = number; l1 = x.l1; l2 = x.l2; l3 = x.l3; outputs = outputs }
+record_row number x outputs = record { number = number; l1 = x.sample.l1; l2 = x.sample.l2; l3 = x.sample.l3; outputs = outputs }
 
 -- the explanation of a row, by the settings and the relay's state before its tick
 abbrev pub row_explained : Progress → Row → List ℕ
-row_explained p x = explanation p.settings p.relay x.l1 x.l2 x.l3 x.block
+row_explained p x = explanation p.settings p.relay x.sample
 
 -- that of the asked row alone
 abbrev pub explained_of : ℕ → Progress → Row → List ℕ

@@ -1,16 +1,11 @@
 -- How far a replay has come, line by line (01, 'Rows and the replay program'). The form decides what rows write, and nothing
 -- else.
-use Rattle.std.specs.Prelude.{cond, List, [], ℕ, ◌+◌, eqb}
+use Rattle.std.specs.Prelude.{cond, List, [], ℕ, ◌+◌, eqb, Result, Ok, Err}
 use Rattle.phase.specs.declared.settings.Settings.{Settings}
 use Rattle.relay.specs.declared.tick.RelayTicked.{RelayTicked}
 use Rattle.relay.specs.State.{clear_relay}
 use Rattle.relay.specs.Tick.{relay_tick_answer}
 use Rattle.rows.specs.declared.row.Row.{Row}
-use Rattle.rows.specs.declared.row.RowRead.{RowRead}
-use Rattle.rows.specs.declared.row.RowRead.TheVariants as row
-use Rattle.rows.specs.declared.settings_line.SettingsRead.{SettingsRead}
-use Rattle.rows.specs.declared.settings_line.SettingsRead.TheVariants as settings_line
-use Rattle.steps.specs.declared.configuration.Configuration.{Configuration}
 use Rattle.steps.specs.declared.output.Form.{Form}
 use Rattle.steps.specs.declared.progress.Stage.{Stage}
 use Rattle.steps.specs.declared.progress.Stage.TheVariants.{Opening, Running, Stopped}
@@ -19,7 +14,7 @@ use Rattle.rows.specs.declared.refusal.Refusal.{Refusal}
 use Rattle.rows.specs.Refusal.{without_place, accepted}
 use Rattle.rows.specs.Row.{row_answer}
 use Rattle.rows.specs.SettingsLine.{settings_line_refusal, settings_line_answer}
-use Rattle.steps.specs.Configuration.{after_settings, last_refusal}
+use Rattle.steps.specs.Configuration.{Configuration, after_settings, last_refusal}
 use Rattle.steps.specs.Output.{note_of, end_line}
 
 -- no settings have been read yet
@@ -57,8 +52,8 @@ stopped x p = record {
 }
 
 -- the settings line, accepted or refused: after an accepted one the configuration is looked at
-abbrev pub opened : Progress → SettingsRead → Progress
-opened p (settings_line.Accepted x) = record {
+abbrev pub opened : Progress → Result Settings Refusal → Progress
+opened p (Ok x) = record {
   configuration = p.configuration;
   stage = after_settings p.configuration;
   settings = x;
@@ -66,11 +61,11 @@ opened p (settings_line.Accepted x) = record {
   done = p.done;
   outputs = p.outputs;
 }
-opened p (settings_line.Refused x) = stopped x p
+opened p (Err x) = stopped x p
 
 -- the tick of a row: the relay's decision on its currents and block, from the state that the rows before left
 abbrev pub ticked : Progress → Row → RelayTicked
-ticked p x = relay_tick_answer p.settings p.relay x.l1 x.l2 x.l3 x.block
+ticked p x = relay_tick_answer p.settings p.relay x.sample.l1 x.sample.l2 x.sample.l3 x.sample.block
 
 -- a row whose tick was accepted is done
 abbrev pub row_done : Progress → RelayTicked → Progress
@@ -88,17 +83,17 @@ abbrev pub after_tick : Progress → RelayTicked → Progress
 after_tick p t = cond (eqb t.refusal 0) (row_done p t) (stopped (without_place t.refusal) p)
 
 -- a row, accepted or refused: only an accepted one ticks
-abbrev pub stepped : Progress → RowRead → Progress
-stepped p (row.Accepted x) = after_tick p (ticked p x)
-stepped p (row.Refused x) = stopped x p
+abbrev pub stepped : Progress → Result Row Refusal → Progress
+stepped p (Ok x) = after_tick p (ticked p x)
+stepped p (Err x) = stopped x p
 
 -- what the tick of a row writes: only one that is done writes anything
 abbrev pub wrote_tick : Form → Progress → Row → RelayTicked → List ℕ
 wrote_tick form p x t = cond (eqb t.refusal 0) (note_of form p x t) []
 
-abbrev pub noted : Form → Progress → RowRead → List ℕ
-noted form p (row.Accepted x) = wrote_tick form p x (ticked p x)
-noted form p (row.Refused x) = []
+abbrev pub noted : Form → Progress → Result Row Refusal → List ℕ
+noted form p (Ok x) = wrote_tick form p x (ticked p x)
+noted form p (Err x) = []
 
 abbrev pub after_row : Progress → List ℕ → Progress
 after_row p l = stepped p (row_answer l p.done)

@@ -9,4 +9,4 @@ pub mod refusals;
 
 pub use configuration::Configuration;
 pub use output::{END_ROOM, EXPLAIN_SPREAD, Form, RECORD_SPREAD, note_change};
-pub use progress::{Noted, Progress, Stage, after_held, end_refusal, on_end, on_line};
+pub use progress::{Progress, Stage, after_held, end_refusal, on_end, on_line};

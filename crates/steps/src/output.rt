@@ -8,17 +8,17 @@ ghost use Rattle.rows.specs.Row.{last_row};
 ghost use Rattle.records.specs.RecordRow.{record_text, longest_record};
 ghost use Rattle.steps.specs.declared.output.Form.TheVariants.{Record, Explain};
 ghost use Rattle.steps.specs.device.Calls.{Notable};
-ghost use Rattle.text.specs.device.Calls.{Wrote, WroteWithin};
+ghost use Rattle.text.specs.device.Page.{Put};
 
 use crate::progress::Progress;
 use explanations::put_explanation;
 use records::{RecordRow, write_row};
 use relay::tick::RelayTicked;
 use rows::Row;
-use text::number::put_decimal;
+use text::page::Page;
 
 // A line for each change of the output byte; a row of the record for each row done; the explanation of the row of that number; or
-// that of each row done.
+// that of each row done. No closure: it is a field of the state that callers copy and hand back (`Replay` of `files`).
 #[derive(Clone, Copy)]
 pub enum Form {
     Changes,
@@ -36,100 +36,86 @@ pub const EXPLAIN_SPREAD: usize = 46;
 // Room for any end line.
 pub const END_ROOM: usize = 26;
 
-// Two decimals with a comma between and LF at the end, at a place; answers the place after them.
-fn put_pair(out: &mut [u8], at: usize, a: u32, b: u32) -> usize
-    requires { at + length (pair_line a b) ≤ length out.old }
-    ensures { Wrote out.old out.new at result (pair_line a b) }
+// Two decimals with a comma between and LF at the end.
+pub(crate) fn put_pair(page: &mut Page, a: u32, b: u32)
+    requires { page.old.at + length (pair_line a b) ≤ length page.old.out.now }
+    ensures { Put (length (pair_line a b)) page.old page.new (pair_line a b) }
 {
-    let p = put_decimal(out, at, a as u64);
-    out[p] = b',';
-    let q = put_decimal(out, p + 1, b as u64);
-    out[q] = b'\n';
-    q + 1
+    page.decimal(a as u64);
+    page.words(b",");
+    page.decimal(b as u64);
+    page.words(b"\n");
 }
 
-// A change line, at a place.
-fn put_change(out: &mut [u8], at: usize, row: u32, outputs: u8) -> usize
-    requires { (row ≤ last_row) × (at + change_room ≤ length out.old) }
-    ensures { WroteWithin change_room out.old out.new at result (change_line row outputs) }
+// A change line.
+fn put_change(page: &mut Page, row: u32, outputs: u8)
+    requires { (row ≤ last_row) × (page.old.at + change_room ≤ length page.old.out.now) }
+    ensures { Put change_room page.old page.new (change_line row outputs) }
 {
-    put_pair(out, at, row, outputs as u32)
+    put_pair(page, row, outputs as u32);
 }
 
 // The line of a tick whose output byte differs from the one before, and nothing for any other.
-pub fn note_change(out: &mut [u8], at: usize, row: u32, outputs: u8, before: u8) -> usize
-    requires { (row ≤ last_row) × (at + change_room ≤ length out.old) }
-    ensures { WroteWithin change_room out.old out.new at result (change_of row outputs before) }
+pub fn note_change(page: &mut Page, row: u32, outputs: u8, before: u8)
+    requires { (row ≤ last_row) × (page.old.at + change_room ≤ length page.old.out.now) }
+    ensures { Put change_room page.old page.new (change_of row outputs before) }
 {
-    if outputs == before {
-        return at;
+    if outputs != before {
+        put_change(page, row, outputs);
     }
-    put_change(out, at, row, outputs)
 }
 
 // The row of the record after `done` rows.
-fn note_record(out: &mut [u8], at: usize, done: u32, x: Row, outputs: u8) -> usize
-    requires { Notable Record done x at (length out.old) }
-    ensures { WroteWithin longest_record out.old out.new at result (record_text (record_row (done + 1) x outputs)) }
+fn note_record(page: &mut Page, done: u32, x: Row, outputs: u8)
+    requires { Notable Record done x page.old.at (length page.old.out.now) }
+    ensures { Put longest_record page.old page.new (record_text (record_row (done + 1) x outputs)) }
 {
     let row = RecordRow {
         number: done + 1,
-        l1: x.l1,
-        l2: x.l2,
-        l3: x.l3,
+        l1: x.sample.l1,
+        l2: x.sample.l2,
+        l3: x.sample.l3,
         outputs,
     };
-    let written = write_row(out, at, row);
-    written.place
+    page.at = write_row(page.out, page.at, row).place;
 }
 
 // The explanation of the row after `p`.
-fn note_reasons(out: &mut [u8], at: usize, p: Progress, x: Row) -> usize
-    requires { at + explanation_room ≤ length out.old }
-    ensures { WroteWithin explanation_room out.old out.new at result (row_explained p x) }
+fn note_reasons(page: &mut Page, p: Progress, x: Row)
+    requires { page.old.at + explanation_room ≤ length page.old.out.now }
+    ensures { Put explanation_room page.old page.new (row_explained p x) }
 {
-    put_explanation(out, at, p.settings, p.relay, x.l1, x.l2, x.l3, x.block)
+    put_explanation(page, p.settings, p.relay, x.sample);
 }
 
 // The explanation of the asked row, and nothing for any other.
-fn note_explanation(out: &mut [u8], at: usize, row: u32, p: Progress, x: Row) -> usize
-    requires { Notable (Explain row) p.done x at (length out.old) }
-    ensures { WroteWithin explanation_room out.old out.new at result (explained_of row p x) }
+fn note_explanation(page: &mut Page, row: u32, p: Progress, x: Row)
+    requires { Notable (Explain row) p.done x page.old.at (length page.old.out.now) }
+    ensures { Put explanation_room page.old page.new (explained_of row p x) }
 {
-    if p.done + 1 != row {
-        return at;
+    if p.done + 1 == row {
+        note_reasons(page, p, x);
     }
-    note_reasons(out, at, p, x)
 }
 
-// What the row after `p` writes, at a place, with its tick.
-pub(crate) fn note_row(
-    form: Form,
-    out: &mut [u8],
-    at: usize,
-    p: Progress,
-    x: Row,
-    t: RelayTicked,
-) -> usize
-    requires { Notable form p.done x at (length out.old) }
-    ensures { WroteWithin (note_room form) out.old out.new at result (note_of form p x t) }
+// What the row after `p` writes, with its tick.
+pub(crate) fn note_row(form: Form, page: &mut Page, p: Progress, x: Row, t: RelayTicked)
+    requires { Notable form p.done x page.old.at (length page.old.out.now) }
+    ensures { Put (note_room form) page.old page.new (note_of form p x t) }
 {
     match form {
-        Form::Changes => note_change(out, at, p.done + 1, t.outputs, p.outputs),
-        Form::Record => note_record(out, at, p.done, x, t.outputs),
-        Form::Explain(row) => note_explanation(out, at, row, p, x),
-        Form::ExplainAll => note_reasons(out, at, p, x),
+        Form::Changes => note_change(page, p.done + 1, t.outputs, p.outputs),
+        Form::Record => note_record(page, p.done, x, t.outputs),
+        Form::Explain(row) => note_explanation(page, row, p, x),
+        Form::ExplainAll => note_reasons(page, p, x),
     }
 }
 
-// The end line, at the front.
-pub(crate) fn put_end(out: &mut [u8], done: u32, refusal: u32) -> usize
-    requires { end_room ≤ length out.old }
-    ensures { WroteWithin end_room out.old out.new 0 result (end_line done refusal) }
+// The end line.
+pub(crate) fn put_end(page: &mut Page, done: u32, refusal: u32)
+    requires { page.old.at + end_room ≤ length page.old.out.now }
+    ensures { Put end_room page.old page.new (end_line done refusal) }
 {
-    out[0] = b'e';
-    out[1] = b'n';
-    out[2] = b'd';
-    out[3] = b',';
-    put_pair(out, 4, done, refusal)
+    page.words(b"end,");
+    put_pair(page, done, refusal);
 }

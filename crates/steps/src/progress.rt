@@ -1,20 +1,21 @@
 // The replay, line by line: the settings line, after which the configuration is looked at, then the rows.
-ghost use Rattle.std.specs.Prelude.{◌≡◌, List, ℕ, ◌+◌, ◌*◌, ◌≤◌, ◌<◌, min, length, take};
+ghost use Rattle.std.specs.Prelude.{◌≡◌, ◌+◌, ◌*◌, ◌≤◌, ◌<◌, length, take};
 ghost use Rattle.rows.specs.Row.{last_row};
 ghost use Rattle.rows.specs.SettingsLine.{settings_line_answer};
 ghost use Rattle.steps.specs.Output.{note_room, spread, end_room};
-ghost use Rattle.steps.specs.Progress.{fresh_progress, stopped, opened, stage_refusal, end_refusal, end_of};
+ghost use Rattle.steps.specs.Progress.{fresh_progress, stopped, opened, ticked, stage_refusal, end_refusal, end_of};
 ghost use Rattle.steps.specs.Progress.{after_tick, wrote_tick, after_row, wrote_row, after_line, wrote_line};
-ghost use Rattle.steps.specs.device.Calls.{Notable, LineNoted};
-ghost use Rattle.text.specs.device.Calls.{WroteWithin};
+ghost use Rattle.steps.specs.device.Calls.{Notable};
+ghost use Rattle.text.specs.device.Page.{Put};
 
 use crate::configuration::{Configuration, after_settings, last_refusal};
 use crate::output::{Form, note_row, put_end};
 use phase::Settings;
 use relay::RelayState;
-use relay::tick::RelayTicked;
+use relay::tick::{RelayTicked, tick};
 use rows::refusals::NO_DIGIT;
-use rows::{Hint, Refusal, Row, RowRead, SettingsRead, read_row, read_settings_line, refuse};
+use rows::{Place, Refusal, Row, read_row, read_settings_line, refuse};
+use text::page::Page;
 
 // What the next line is to be; after a refusal, what was refused.
 #[derive(Clone, Copy)]
@@ -35,13 +36,6 @@ pub struct Progress {
     pub outputs: u8,
 }
 
-// The progress after a line, and the place after what the line wrote.
-#[derive(Clone, Copy)]
-pub struct Noted {
-    pub progress: Progress,
-    pub written: usize,
-}
-
 impl Progress {
     pub fn fresh(configuration: Configuration) -> Self
         ensures { result ≡ fresh_progress configuration }
@@ -55,12 +49,11 @@ impl Progress {
             reset_time: 0,
             start_only: 0,
         };
-        let relay = RelayState::clear();
         Progress {
             configuration,
             stage: Stage::Opening,
             settings,
-            relay,
+            relay: RelayState::clear(),
             done: 0,
             outputs: 0,
         }
@@ -70,38 +63,22 @@ impl Progress {
 fn stop(p: Progress, refusal: Refusal) -> Progress
     ensures { result ≡ stopped refusal p }
 {
-    let configuration = p.configuration;
-    let settings = p.settings;
-    let relay = p.relay;
     Progress {
-        configuration,
         stage: Stage::Stopped(refusal),
-        settings,
-        relay,
-        done: p.done,
-        outputs: p.outputs,
+        ..p
     }
 }
 
 fn on_settings_line(p: Progress, line: &[u8]) -> Progress
     ensures { result ≡ opened p (settings_line_answer line.now) }
 {
-    let answer = read_settings_line(line);
-    match answer {
-        SettingsRead::Accepted(settings) => {
-            let configuration = p.configuration;
-            let stage = after_settings(configuration);
-            let relay = p.relay;
-            Progress {
-                configuration,
-                stage,
-                settings,
-                relay,
-                done: p.done,
-                outputs: p.outputs,
-            }
-        }
-        SettingsRead::Refused(refusal) => stop(p, refusal),
+    match read_settings_line(line) {
+        Ok(settings) => Progress {
+            stage: after_settings(p.configuration),
+            settings,
+            ..p
+        },
+        Err(refusal) => stop(p, refusal),
     }
 }
 
@@ -113,80 +90,58 @@ fn after_tick(p: Progress, t: RelayTicked) -> Progress
     if t.refusal != 0 {
         return stop(p, refuse(t.refusal));
     }
-    let configuration = p.configuration;
-    let settings = p.settings;
-    let relay = t.state;
     Progress {
-        configuration,
         stage: Stage::Running,
-        settings,
-        relay,
+        relay: t.state,
         done: p.done + 1,
         outputs: t.outputs,
+        ..p
     }
 }
 
 // A row done writes a note.
-fn on_tick(form: Form, p: Progress, x: Row, t: RelayTicked, out: &mut [u8], at: usize) -> Noted
-    requires { Notable form p.done x at (length out.old) }
-    ensures { LineNoted (note_room form) out.old out.new at (after_tick p t) (wrote_tick form p x t) result }
+fn note_tick(form: Form, page: &mut Page, p: Progress, x: Row, t: RelayTicked)
+    requires { Notable form p.done x page.old.at (length page.old.out.now) }
+    ensures { Put (note_room form) page.old page.new (wrote_tick form p x t) }
 {
-    let progress = after_tick(p, t);
-    if t.refusal != 0 {
-        return Noted {
-            progress,
-            written: at,
-        };
+    if t.refusal == 0 {
+        note_row(form, page, p, x, t);
     }
-    let end = note_row(form, out, at, p, x, t);
-    Noted {
-        progress,
-        written: end,
-    }
+}
+
+fn tick_row(p: Progress, x: Row) -> RelayTicked
+    ensures { result ≡ ticked p x }
+{
+    tick(p.settings, p.relay, x.sample)
 }
 
 // A row. What it writes is at most so many times as long as the row itself.
-fn on_row(form: Form, p: Progress, line: &[u8], out: &mut [u8], at: usize) -> Noted
-    requires { at + spread form * length line.now ≤ length out.old }
-    ensures { let l : List ℕ = line.now in
-        LineNoted (spread form * length l) out.old out.new at (after_row p l) (wrote_row form p l) result }
+fn on_row(form: Form, p: Progress, line: &[u8], page: &mut Page) -> Progress
+    requires { page.old.at + spread form * length line.now ≤ length page.old.out.now }
+    ensures progress { result ≡ after_row p line.now }
+    ensures wrote { Put (spread form * length line.now) page.old page.new (wrote_row form p line.now) }
 {
-    let answer = read_row(line, p.done);
-    match answer {
-        RowRead::Accepted(x) => {
-            let t = relay::tick::tick(p.settings, p.relay, x.l1, x.l2, x.l3, x.block);
-            on_tick(form, p, x, t, out, at)
+    match read_row(line, p.done) {
+        Ok(x) => {
+            let t = tick_row(p, x);
+            note_tick(form, page, p, x, t);
+            after_tick(p, t)
         }
-        RowRead::Refused(refusal) => {
-            let progress = stop(p, refusal);
-            Noted {
-                progress,
-                written: at,
-            }
-        }
+        Err(refusal) => stop(p, refusal),
     }
 }
 
-// One line of the input, which writes at a place of the output.
-pub fn on_line(form: Form, p: Progress, line: &[u8], out: &mut [u8], at: usize) -> Noted
-    requires { at + spread form * length line.now ≤ length out.old }
-    ensures { let l : List ℕ = line.now in
-        LineNoted (spread form * length l) out.old out.new at (after_line p l) (wrote_line form p l) result }
+// One line of the input, which writes on a page.
+#[tactic(auto, unfolding(crate::specs::Progress::after_by, crate::specs::Progress::wrote_by))]
+pub fn on_line(form: Form, p: Progress, line: &[u8], page: &mut Page) -> Progress
+    requires { page.old.at + spread form * length line.now ≤ length page.old.out.now }
+    ensures progress { result ≡ after_line p line.now }
+    ensures wrote { Put (spread form * length line.now) page.old page.new (wrote_line form p line.now) }
 {
-    let stage = p.stage;
-    match stage {
-        Stage::Opening => {
-            let progress = on_settings_line(p, line);
-            Noted {
-                progress,
-                written: at,
-            }
-        }
-        Stage::Running => on_row(form, p, line, out, at),
-        Stage::Stopped(_) => Noted {
-            progress: p,
-            written: at,
-        },
+    match p.stage {
+        Stage::Opening => on_settings_line(p, line),
+        Stage::Running => on_row(form, p, line, page),
+        Stage::Stopped(_) => p,
     }
 }
 
@@ -194,52 +149,44 @@ pub fn on_line(form: Form, p: Progress, line: &[u8], out: &mut [u8], at: usize) 
 fn after_row(p: Progress, line: &[u8]) -> Progress
     ensures { result ≡ after_row p line.now }
 {
-    let answer = read_row(line, p.done);
-    match answer {
-        RowRead::Accepted(x) => {
-            let t = relay::tick::tick(p.settings, p.relay, x.l1, x.l2, x.l3, x.block);
-            after_tick(p, t)
-        }
-        RowRead::Refused(refusal) => stop(p, refusal),
+    match read_row(line, p.done) {
+        Ok(x) => after_tick(p, tick_row(p, x)),
+        Err(refusal) => stop(p, refusal),
     }
 }
 
 // A line that writes nothing.
+#[tactic(auto, unfolding(crate::specs::Progress::after_by))]
 fn after_line(p: Progress, line: &[u8]) -> Progress
     ensures { result ≡ after_line p line.now }
 {
-    let stage = p.stage;
-    match stage {
+    match p.stage {
         Stage::Opening => on_settings_line(p, line),
         Stage::Running => after_row(p, line),
         Stage::Stopped(_) => p,
     }
 }
 
-fn least(a: usize, b: usize) -> usize
-    ensures { result ≡ min a b }
-{
-    if a < b { a } else { b }
-}
-
 // The line of the first n bytes held, which writes nothing; of all of them, where there are fewer.
 pub fn after_held(p: Progress, held: &[u8], n: usize) -> Progress
     ensures { result ≡ after_line p (take n held.now) }
 {
-    let end = least(n, held.len());
-    after_line(p, &held[..end])
+    after_line(p, &held[..n.min(held.len())])
 }
 
 // By the lines alone: where no settings line came, it is one with no digit.
+#[tactic(auto, using(rows::proofs::SettingsLineLaws::settings_empty), unfolding(crate::specs::Progress::stage_refusal))]
 fn stage_refusal(stage: Stage) -> Refusal
     ensures { result ≡ stage_refusal stage }
 {
     match stage {
         Stage::Opening => Refusal {
             number: NO_DIGIT,
-            offset: 0,
-            field: 1,
-            hint: Hint::None,
+            place: Some(Place {
+                offset: 0,
+                field: 1,
+            }),
+            hint: None,
         },
         Stage::Running => refuse(0),
         Stage::Stopped(refusal) => refusal,
@@ -250,17 +197,13 @@ fn stage_refusal(stage: Stage) -> Refusal
 pub fn end_refusal(p: Progress) -> Refusal
     ensures { result ≡ end_refusal p }
 {
-    let configuration = p.configuration;
-    let stage = p.stage;
-    let refusal = stage_refusal(stage);
-    last_refusal(configuration, p.done, refusal)
+    last_refusal(p.configuration, p.done, stage_refusal(p.stage))
 }
 
-// The end line, at the front of the output; answers how long it is.
-pub fn on_end(p: Progress, out: &mut [u8]) -> usize
-    requires { end_room ≤ length out.old }
-    ensures { WroteWithin end_room out.old out.new 0 result (end_of p) }
+// The end line.
+pub fn on_end(p: Progress, page: &mut Page)
+    requires { page.old.at + end_room ≤ length page.old.out.now }
+    ensures { Put end_room page.old page.new (end_of p) }
 {
-    let refusal = end_refusal(p);
-    put_end(out, p.done, refusal.number)
+    put_end(page, p.done, end_refusal(p).number);
 }

@@ -1,4 +1,5 @@
 pub mod StoreLaws
+pub mod PageLaws
 pub mod ByteLaws
 pub mod DigitLaws
 pub mod DecimalLaws

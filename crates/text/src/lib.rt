@@ -6,4 +6,5 @@ pub mod cutter;
 pub mod decimals;
 pub mod lines;
 pub mod number;
+pub mod page;
 pub mod words;

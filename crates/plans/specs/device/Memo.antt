@@ -37,6 +37,13 @@ to_by true true is_below_cap m s = (no_gain + 1) * s - 1
 to_by true false true m s = m * s + (s - 1)
 to_by true false false m s = top_sample
 
+-- the first and the last of the samples at a ratio
+abbrev pub samples_at : Settings → ℕ → ℕ × ℕ
+samples_at settings m =
+    let is_curve : Bool = leb first_curve settings.operation in
+    let stands : Bool = leb m no_gain && ltb settings.operation first_ansi in
+    (from_by is_curve stands m settings.start_current, to_by is_curve stands (ltb m cap_ratio) m settings.start_current)
+
 abbrev pub memo_by : (is_curve stands is_below_cap : Bool) → ℕ → ℕ → ℕ → ℕ → Memo
 memo_by is_curve stands is_below_cap m s gain loss =
     record { from = from_by is_curve stands m s; to = to_by is_curve stands is_below_cap m s; gain = gain; loss = loss }

@@ -44,7 +44,6 @@ run_reset_of (Curve rule) settings = 0
 abbrev pub on_plan : Timing → Settings → Plan
 on_plan timing settings =
     record {
-      settings = settings;
       starts_above = 100 * settings.start_current;
       stays_above = 95 * settings.start_current - 1;
       level = level_of timing settings;
@@ -54,10 +53,9 @@ on_plan timing settings =
       drop_limit = run_limit;
     }
 
-abbrev pub off_plan : Settings → Plan
-off_plan settings =
+abbrev pub off_plan : Plan
+off_plan =
     record {
-      settings = settings;
       starts_above = top_sample;
       stays_above = top_sample;
       level = 0;
@@ -68,7 +66,7 @@ off_plan settings =
     }
 
 abbrev pub plan_by : Kind → Settings → Plan
-plan_by Off settings = off_plan settings
+plan_by Off settings = off_plan
 plan_by (On timing) settings = on_plan timing settings
 
 unfoldable pub plan_of : Settings → Plan

@@ -1,10 +1,7 @@
 -- A device of the code: one tick of the three phases, each on its way by the plan.
 use Rattle.std.specs.Prelude.{ℕ, ◌*◌, true, ◌≡◌}
 use Rattle.phase.specs.declared.settings.Settings.{Settings}
-use Rattle.phase.specs.device.Ranges.{InRange}
-use Rattle.plans.specs.declared.plan.Plan.{Plan}
 use Rattle.plans.specs.device.Course.{course_of, Remembers}
-use Rattle.plans.specs.device.Plan.{plan_of}
 use Rattle.relay.specs.declared.state.RelayState.{RelayState}
 use Rattle.relay.specs.declared.step.Courses.{Courses}
 use Rattle.relay.specs.declared.step.Stepped.{Stepped}
@@ -29,14 +26,12 @@ courses_from settings relay =
     let g : ℕ = 100 * settings.start_current in
     courses_of settings relay g g g
 
--- what a step goes by
-pub record StepReady (plan : Plan) (courses : Courses) : Type 0 where
-  pub range : InRange plan.settings
-  pub planned : plan ≡ plan_of plan.settings
-  pub valid : valid_relay plan.settings (relay_of courses) ≡ true
-  pub l1 : Remembers plan.settings courses.l1
-  pub l2 : Remembers plan.settings courses.l2
-  pub l3 : Remembers plan.settings courses.l3
+-- what a step by the plan of these settings goes by
+pub record StepReady (settings : Settings) (courses : Courses) : Type 0 where
+  pub valid : valid_relay settings (relay_of courses) ≡ true
+  pub l1 : Remembers settings courses.l1
+  pub l2 : Remembers settings courses.l2
+  pub l3 : Remembers settings courses.l3
 
 abbrev pub relay_step : Settings → RelayState → ℕ → ℕ → ℕ → ℕ → Stepped
 relay_step settings relay l1 l2 l3 block =

@@ -1,15 +1,13 @@
--- `explanations::explanation::put_named` meets its contract: the word, then the digits.
+-- `explanations::explanation::put_named` meets its contract: the word, then the number, which is no longer than its room.
 -- Assumes nothing.
 use native.Mathlib.Omega.{arith}
-use lib.ListN.{length-append}
+use Rattle.text.specs.Number.{decimal_room}
 use Rattle.text.proofs.DecimalLaws.{decimal_length}
-use Rattle.text.proofs.StoreLaws.{wrote_then, wrote_within}
+use Rattle.text.proofs.PageLaws.{put_then, put_within}
 use Rattle.explanations.proofs.explanation.put_named.Goals as goal
 
-pub put_decimal-requires : goal.put_decimal-requires
-put_decimal-requires c = omega (arith, decimal_length 19 c.args.n)
+pub decimal-requires : goal.decimal-requires
+decimal-requires c = omega (arith, decimal_length 19 c.args.n)
 
 pub returns : goal.returns
-returns c =
-    wrote_within _ (wrote_then c.put_words-p.ensures c.put_decimal.ensures)
-    (rw length-append (omega (arith, decimal_length 19 c.args.n)))
+returns c = put_then c.words.ensures (put_within decimal_room c.decimal.ensures (omega (arith, decimal_length 19 c.args.n)))

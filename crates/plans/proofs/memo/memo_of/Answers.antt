@@ -5,7 +5,7 @@ use Rattle.plans.specs.device.Memo.{memo_of}
 use Rattle.plans.proofs.memo.memo_of.Goals as goal
 
 pub memo_at-requires : goal.memo_at-requires
-memo_at-requires c = (c.requires, rw c.ratio_of-ratio.ensures (ratio_at_most _ _))
+memo_at-requires c = rw c.ratio_of-ratio.ensures (ratio_at_most _ _)
 
 pub returns : goal.returns
 unfolding memo_of

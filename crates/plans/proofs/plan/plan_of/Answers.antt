@@ -1,13 +1,13 @@
 -- `plans::plan::plan_of` meets its contract: by the group of operations.
 -- Assumes nothing.
+use mathlib.Core.Path.{refl}
 use Rattle.plans.specs.device.Plan.{plan_of}
-use mathlib.Core.Path.{sym, ◌∙◌}
 use Rattle.plans.proofs.plan.plan_of.Goals as goal
 
-pub returns-in-Off : goal.returns-in-Off
+pub invariant_of-result : goal.invariant_of-result
 unfolding plan_of
-returns-in-Off c = rw (sym c.kind_of-kind.ensures ∙ c.in-Off.is) c.off_plan.ensures
+invariant_of-result c = record { is_theirs = rw (c.plan_by-plan.ensures, c.kind_of.ensures) }
 
-pub returns-in-On : goal.returns-in-On
+pub returns : goal.returns
 unfolding plan_of
-returns-in-On c = rw (sym c.kind_of-kind.ensures ∙ c.in-On.is) c.on_plan.ensures
+returns c = (refl, rw (c.plan_by-plan.ensures, c.kind_of.ensures))

@@ -1,10 +1,10 @@
 -- `steps::output::note_record` meets its contract: the row is accepted.
 -- Assumes nothing.
-use Rattle.steps.proofs.OutputLaws.{record_written}
+use mathlib.Core.Path.{refl}
+use Rattle.steps.proofs.OutputLaws.{record_put}
 use Rattle.steps.proofs.output.note_record.Goals as goal
 
 pub returns : goal.returns
 returns c =
     let a = c.args in
-    let w = c.write_row-written in
-    record_written a.done a.x a.outputs a.at a.out.now w.new.out w.result c.requires w.ensures
+    record_put a.done a.x a.outputs a.page.now _ c.write_row.result c.requires refl refl c.write_row.ensures

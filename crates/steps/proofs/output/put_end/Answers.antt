@@ -1,32 +1,15 @@
--- `steps::output::put_end` meets its contract.
+-- `steps::output::put_end` meets its contract: the word, then the pair.
 -- Assumes nothing.
-use mathlib.Core.Path.{ap, ◌∙◌}
 use native.Mathlib.Omega.{arith}
-use lib.ListN.{length, length-set}
-use lib.Seq.{length-sets}
-use borrow.Author.Rules.{rules}
+use Rattle.text.proofs.PageLaws.{put_then, put_within}
+use Rattle.steps.specs.Output.{end_room}
 use Rattle.steps.proofs.OutputLaws.{end_short}
 use Rattle.steps.proofs.output.put_end.Goals as goal
 
-pub bounds-out-1 : goal.bounds-out-1
-bounds-out-1 c = simp length-set (omega arith)
-
-pub bounds-out-2 : goal.bounds-out-2
-bounds-out-2 c = simp length-set (omega arith)
-
-pub bounds-out-3 : goal.bounds-out-3
-bounds-out-3 c = simp length-set (omega arith)
-
 pub put_pair-requires : goal.put_pair-requires
-put_pair-requires c =
-    let a = c.args in
-    simp length-set (omega (arith, end_short a.done a.refusal (omega arith) (omega arith)))
-
-pub shape_of-out : goal.shape_of-out
-shape_of-out c = ap length c.put_pair.ensures.output ∙ simp (length-sets, length-set)
+put_pair-requires c = omega (arith, end_short c.args.done c.args.refusal (omega arith) (omega arith))
 
 pub returns : goal.returns
 returns c =
-    let a = c.args in
-    let short = end_short a.done a.refusal (omega arith) (omega arith) in
-    record { wrote = search rules; short = omega arith }
+    let short = end_short c.args.done c.args.refusal (omega arith) (omega arith) in
+    put_within end_room (put_then c.words.ensures c.put_pair.ensures) (omega (arith, short))

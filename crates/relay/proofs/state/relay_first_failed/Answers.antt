@@ -1,6 +1,0 @@
--- `relay::state::relay_first_failed` meets its contract.
--- Assumes nothing.
-use Rattle.relay.proofs.state.relay_first_failed.Goals as goal
-
-pub returns : goal.returns
-returns c = rw (c.settings_first_failed.ensures, c.first_failed.ensures, c.all_valid.ensures)
