@@ -2,6 +2,7 @@
 -- Assumes nothing.
 use mathlib.Core.Path.{◌≡◌, refl, sym, ◌∙◌}
 use mathlib.Core.Bool.{Bool, true, false, cond, false≢true}
+pub use Rattle.std.proofs.lemmas.Bool.{false_from_ne_true as not_true}
 
 module _ {A : Type 0} where
   pub by_cond : (P : A → Type 0) (t : Bool) (x y : A) → (t ≡ true → P x) → (t ≡ false → P y) → P (cond t x y)
@@ -16,7 +17,3 @@ pub same_test : (a b : Bool) → (a ≡ true → b ≡ true) → (b ≡ true →
 same_test true b f g = sym (f refl)
 same_test false true f g = g refl
 same_test false false f g = refl
-
-pub not_true : (t : Bool) → (t ≡ true → ⊥) → t ≡ false
-not_true true f = absurd (f refl)
-not_true false f = refl

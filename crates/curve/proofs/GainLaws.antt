@@ -43,6 +43,9 @@ pub loss_by_time : (op m : ℕ) → 10 ^ 14 / reset_time op m ≡ loss_of op m
 unfolding loss_of reset_time
 loss_by_time op m = share_of (has_reset_time op m) _
 
+-- what the check of `change_of` goes by
+pub ruleset change_laws = (gain_by_time, loss_by_time)
+
 -- ---- where there is none
 
 -- "it is 0 at m = 100 or less"

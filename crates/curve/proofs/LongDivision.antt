@@ -1,7 +1,7 @@
 -- Division by shift and subtract: the quotient's bits from the highest down.
 -- Assumes nothing.
 use Prim.Native.Nat.{ℕ, zero, suc, ◌+◌, ◌-◌, ◌*◌, ◌/◌, ◌%◌, ◌^◌, ◌≤◌, ◌<◌}
-use native.Mathlib.Nat.{add-mul, div-eq_of_lt-le, le_trans, lt_of_lt_of_le, lt_of_le_of_lt, lt_of_not-le, mul_assoc, mul_comm, mul-le-mul_left, mul-le-mul_right, not-le_of_lt, pow-suc}
+use native.Mathlib.Nat.{add-mul, div-eq_of_lt, div-eq_of_lt-le, le_trans, lt_of_lt_of_le, lt_of_le_of_lt, lt_of_not-le, mul_assoc, mul_comm, mul-le-mul_left, mul-le-mul_right, not-le_of_lt, pow-suc}
 use native.Mathlib.Omega.{arith}
 use mathlib.Core.Path.{◌≡◌, sym, ap, ◌∙◌}
 use lib.Count.{count_leading_zeros, leading_top}
@@ -111,3 +111,15 @@ lined_up n d pos le high =
     let top_n = leading_top 64 n (omega arith) high in
     let top_d = leading_top 64 d pos (lt_of_le_of_lt le high) in
     lined_up_at n d (count_leading_zeros 64 n) (count_leading_zeros 64 d) top_n.0 top_d.0 le top_n.1 top_d.1 top_n.3 top_d.2 top_d.3
+
+-- a number that is not below the divisor has no more leading zeros
+pub fewer_zeros : (n d : ℕ) → 0 < d → d ≤ n → n < 2 ^ 64 → count_leading_zeros 64 n ≤ count_leading_zeros 64 d
+fewer_zeros n d pos le high = (lined_up n d pos le high).zeros
+
+-- and so the rounds begin
+pub begun : (n d : ℕ) → 0 < d → d ≤ n → n < 2 ^ 64
+    → Dividing n d ((d * 2 ^ (count_leading_zeros 64 d - count_leading_zeros 64 n)) % 2 ^ 64) ((1 * 2 ^ (count_leading_zeros 64 d - count_leading_zeros 64 n)) % 2 ^ 64) n 0
+begun n d pos le high = (suc _, (lined_up n d pos le high).begun)
+
+-- what the check of `shift_and_subtract` goes by
+pub ruleset division_laws = (lined_up, fewer_zeros, begun, round_set, round_clear, round_fits, divided, div-eq_of_lt)

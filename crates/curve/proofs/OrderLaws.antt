@@ -8,6 +8,7 @@ use mathlib.Core.Bool.{Bool, true, false, cond, ◌&&◌}
 use mathlib.Core.Path.{◌≡◌, refl}
 use borrow.Author.Tests.{leb-true, le-leb}
 use lib.Dec.{lit≤, leb}
+use Rattle.std.specs.Prelude.{Option, Some, None}
 use Rattle.checks.specs.Range.{in_range}
 use Rattle.checks.proofs.Tests.{both_true, in_range_law, is_in_range}
 use Rattle.powers.proofs.PowerRule.{X_never_rises}
@@ -15,7 +16,7 @@ use Rattle.curve.specs.declared.constants.Power.{Power}
 use Rattle.curve.specs.declared.constants.Power.TheVariants.{Fiftieth, First, Second}
 use Rattle.curve.specs.Constants.{constants_of}
 use Rattle.curve.specs.Gain.{gain_of, loss_of}
-use Rattle.curve.specs.Time.{has_operate_time, has_reset_time, inverse_part, operate_time, reset_part, reset_time}
+use Rattle.curve.specs.Time.{has_operate_time, has_reset_time, inverse_part, operate_time, reset_by, reset_part, reset_time}
 use Rattle.curve.proofs.RoundingLaws.{rounded_up_order}
 use Rattle.curve.proofs.TimeLaws.{square_above, square_below, operate_time_at_least, reset_time_at_least}
 
@@ -44,11 +45,15 @@ reset_order kr m n h high =
     let squares = mul-le-mul h h in
     rounded_up_order _ _ _ _ (omega (arith, square_below n high)) (omega arith) (omega arith)
 
+reset_by_order : (kr : Option ℕ) (m n : ℕ) → m ≤ n → n ≤ 99 → reset_by kr m ≤ reset_by kr n
+reset_by_order None m n h high = le_refl 0
+reset_by_order (Some kr) m n h high = reset_order kr m n h high
+
 pub reset_time_never_falls : (op m n : ℕ) → m ≤ n → n ≤ 99 → reset_time op m ≤ reset_time op n
 unfolding reset_time
 reset_time_never_falls op m n h high =
     rw (le-leb m 99 (le_trans h high), le-leb n 99 high)
-    (where_given (in_range 6 12 op && true) _ _ (reset_order (constants_of op).kr m n h high))
+    (where_given (in_range 6 12 op && true) _ _ (reset_by_order (constants_of op).kr m n h high))
 
 -- ---- gain and loss
 

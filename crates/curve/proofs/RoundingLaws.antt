@@ -1,7 +1,7 @@
 -- A quotient rounded up: what it means, its size, its order, and the one division that gives it.
 -- Assumes nothing.
 use Prim.Native.Nat.{ℕ, suc, ◌+◌, ◌-◌, ◌*◌, ◌/◌, ◌%◌, ◌≤◌, ◌<◌}
-use native.Mathlib.Nat.{div-add-mod', mod-lt, div-eq_of_lt-le, div-le_self, div-lt_iff_lt-mul, le-div_iff_mul-le, le_trans, mul-le-mul_left, suc-mul}
+use native.Mathlib.Nat.{div-add-mod', mod-lt, div-eq_of_lt-le, div-le_self, div-lt_iff_lt-mul, div-zero, le-div_iff_mul-le, le_trans, mul-le-mul_left, suc-mul}
 use native.Mathlib.Omega.{arith}
 use mathlib.Core.Bool.{Bool, true, false, cond}
 use mathlib.Core.Path.{◌≡◌, refl}
@@ -50,3 +50,7 @@ pub rounded_up_order : (n n' d d' : ℕ) → 0 < d' → n ≤ n' → d' ≤ d �
 rounded_up_order n n' d d' pos more less =
     rounded_up_within (rounded_up n' d') n d (le_trans pos less)
     (le_trans more (le_trans (rounded_up_reaches n' d' pos) (mul-le-mul_left (rounded_up n' d') less)))
+
+-- ---- by 0
+
+pub ruleset by_zero = (div-zero)

@@ -1,5 +1,5 @@
 -- The operate and the reset time in microseconds (01, 'Curve numbers').
-use Rattle.std.specs.Prelude.{ℕ, ◌+◌, ◌-◌, ◌*◌, Bool, cond, ◌&&◌, leb}
+use Rattle.std.specs.Prelude.{ℕ, ◌+◌, ◌-◌, ◌*◌, Bool, cond, ◌&&◌, leb, Option, Some, None}
 use Rattle.checks.specs.Range.{in_range}
 use Rattle.powers.specs.Power.{X}
 use Rattle.curve.specs.declared.constants.Power.{Power}
@@ -30,6 +30,11 @@ operate_time op m =
 abbrev pub reset_part : ℕ → ℕ → ℕ
 reset_part kr m = rounded_up (kr * 1000000) (10000 - m * m)
 
+-- 0 where the paper gives no kr
+abbrev pub reset_by : Option ℕ → ℕ → ℕ
+reset_by None m = 0
+reset_by (Some kr) m = reset_part kr m
+
 -- 0 where the paper gives none
 unfoldable pub reset_time : ℕ → ℕ → ℕ
-reset_time op m = cond (has_reset_time op m) (reset_part (constants_of op).kr m) 0
+reset_time op m = cond (has_reset_time op m) (reset_by (constants_of op).kr m) 0

@@ -11,6 +11,7 @@ const TICK_SHARE: u64 = 100000000000000;
 
 // What a tick changes a sum by at a ratio: its gain above 100, else its loss. One function for both, called from both, so that it
 // stays a call: the loops of its quotients take no register from the loop over the ticks.
+#[tactic(auto, using(crate::proofs::GainLaws::change_laws))]
 fn change_of(operation: u32, ratio: u32) -> u64
     ensures { result ≡ cond (ltb 100 ratio) (gain_of operation ratio) (loss_of operation ratio) }
 {
@@ -23,6 +24,7 @@ fn change_of(operation: u32, ratio: u32) -> u64
 }
 
 // The gain of a started tick; 0 where the operation or the ratio has no operate time.
+#[tactic(auto, using(crate::proofs::GainLaws::gain_zero_to_100))]
 pub fn gain_of(operation: u32, ratio: u32) -> u64
     ensures { result ≡ gain_of operation ratio }
 {
@@ -33,6 +35,7 @@ pub fn gain_of(operation: u32, ratio: u32) -> u64
 }
 
 // The loss of an idle tick; 0 where the operation or the ratio has no reset time.
+#[tactic(auto, using(crate::proofs::GainLaws::loss_zero_from_100))]
 pub fn loss_of(operation: u32, ratio: u32) -> u64
     ensures { result ≡ loss_of operation ratio }
 {

@@ -7,8 +7,11 @@ use crate::rounding::round_up;
 use powers::x_of;
 
 // What a curve with the power a and the constant k adds to c at a ratio m.
+#[tactic(auto, using(crate::proofs::TimeLaws::inverse_laws))]
 fn inverse_part(a: Power, k: u64, m: u32) -> u64
-    requires { (k ≤ 10 ^ 7) × (101 ≤ m) × (m ≤ 2000) }
+    requires moderate { k ≤ 10 ^ 7 }
+    requires above { 101 ≤ m }
+    requires within { m ≤ 2000 }
     ensures { result ≡ inverse_part a k m }
 {
     let ratio = m as u64;
@@ -19,67 +22,43 @@ fn inverse_part(a: Power, k: u64, m: u32) -> u64
     }
 }
 
-// T by the formula of the operation: the IEC curves have no c, which is 0 in their rows.
-fn time_by_formula(operation: u32, ratio: u32) -> u64
-    requires { (101 ≤ ratio) × (ratio ≤ 2000) }
-    ensures { result ≡ operate_time operation ratio }
-{
-    match operation {
-        0 => 0,
-        1 => 0,
-        2..=12 => {
-            let row = constants_of(operation);
-            let a = row.a;
-            row.c + inverse_part(a, row.k, ratio)
-        }
-        _ => 0,
-    }
-}
-
-// The operate time T at multiplier 1; 0 where there is none.
+// The operate time T at multiplier 1; 0 where there is none. The arms are the ranges of the ratio that document 01 names.
+#[tactic(auto, using(crate::proofs::TimeLaws::operate_laws))]
 pub fn operate_time(operation: u32, ratio: u32) -> u64
     ensures { result ≡ operate_time operation ratio }
 {
     match ratio {
         0..=99 => 0,
         100 => 0,
-        101..=2000 => time_by_formula(operation, ratio),
+        101..=2000 => match constants_of(operation) {
+            Some(row) => row.c + inverse_part(row.a, row.k, ratio),
+            None => 0,
+        },
         _ => 0,
     }
 }
 
 // What an ANSI curve with the constant kr takes to reset at a ratio m.
+#[tactic(auto, using(crate::proofs::TimeLaws::square_below))]
 fn reset_part(kr: u64, m: u32) -> u64
-    requires { (kr ≤ 10 ^ 7) × (m ≤ 99) }
+    requires moderate { kr ≤ 10 ^ 7 }
+    requires below { m ≤ 99 }
     ensures { result ≡ reset_part kr m }
 {
     let ratio = m as u64;
     round_up(kr * 1000000, 10000 - ratio * ratio)
 }
 
-// The reset time by the reset rule of the operation: only the ANSI curves have one.
-fn reset_by_rule(operation: u32, ratio: u32) -> u64
-    requires { ratio ≤ 99 }
-    ensures { result ≡ reset_time operation ratio }
-{
-    match operation {
-        0 => 0,
-        1 => 0,
-        2..=5 => 0,
-        6..=12 => {
-            let ansi = constants_of(operation);
-            reset_part(ansi.kr, ratio)
-        }
-        _ => 0,
-    }
-}
-
 // The reset time of an ANSI curve; 0 where there is none.
+#[tactic(auto, using(crate::proofs::TimeLaws::reset_laws))]
 pub fn reset_time(operation: u32, ratio: u32) -> u64
     ensures { result ≡ reset_time operation ratio }
 {
     match ratio {
-        0..=99 => reset_by_rule(operation, ratio),
+        0..=99 => match constants_of(operation).and_then(|row| row.kr) {
+            Some(kr) => reset_part(kr, ratio),
+            None => 0, // no curve, or one of the IEC
+        },
         100 => 0,
         101..=2000 => 0,
         _ => 0,

@@ -13,27 +13,26 @@ use borrow.Author.Tests.{eqb-true}
 use Rattle.checks.specs.Checks.{first_failed}
 use Rattle.checks.proofs.Tests.{both_true}
 use Rattle.text.specs.declared.lines.Closer.TheVariants.{CrLf}
-use Rattle.text.specs.device.Calls.{WroteWithin}
 use Rattle.text.specs.Lines.{one_more, cutting}
+use Rattle.text.specs.declared.page.Page.{Page}
+use Rattle.text.specs.device.Page.{Put}
+use Rattle.text.proofs.PageLaws.{put_then, put_nothing}
 use Rattle.text.proofs.StoreLaws.{sets_append}
 use Rattle.phase.specs.declared.settings.Settings.{Settings}
 use Rattle.phase.specs.device.Ranges.{InRange}
 use Rattle.phase.specs.Settings.{settings_refusal}
-use Rattle.plans.specs.declared.plan.Plan.{Plan}
-use Rattle.plans.specs.device.Plan.{plan_of}
-use Rattle.plans.proofs.PlanLaws.{plan_settings, plan_is}
 use Rattle.relay.specs.device.Step.{relay_of, courses_from}
 use Rattle.relay.specs.declared.state.RelayState.{RelayState}
 use Rattle.relay.specs.State.{valid_relay}
 use Rattle.relay.specs.Tick.{next_relay, relay_checks, relay_tick_answer}
 use Rattle.relay.proofs.RelayLaws.{is_three, next_three, begins_ready, step_leaves_ready, settings_not_refused, relay_passed, relay_tick_allowed, relay_tick_accepted}
 use Rattle.rows.specs.declared.row.Row.{Row}
-use Rattle.rows.specs.declared.row.RowRead.TheVariants.{Accepted}
+use Rattle.std.specs.Prelude.{Ok}
 use Rattle.rows.specs.declared.front.Front.{Front}
 use Rattle.rows.specs.Row.{row_answer, last_row}
 use Rattle.rows.proofs.FrontRowLaws.{AtFront}
 use Rattle.rows.proofs.RowLaws.{accepted_row}
-use Rattle.steps.specs.declared.configuration.Configuration.{Configuration}
+use Rattle.steps.specs.Configuration.{Configuration}
 use Rattle.steps.specs.declared.output.Form.{Form}
 use Rattle.steps.specs.declared.output.Form.TheVariants.{Changes, Record, Explain, ExplainAll}
 use Rattle.steps.specs.declared.progress.Progress.{Progress}
@@ -42,7 +41,6 @@ use Rattle.steps.specs.declared.progress.Stage.TheVariants.{Opening, Running, St
 use Rattle.steps.specs.Output.{change_room, spread}
 use Rattle.steps.specs.Progress.{after_line, wrote_line, after_by, wrote_by, stepped, noted}
 use Rattle.files.specs.declared.ahead.Way.{Way}
-use Rattle.files.specs.declared.ahead.RowsDone.{RowsDone}
 use Rattle.files.specs.declared.ahead.Ahead.{Ahead}
 use Rattle.files.specs.declared.replay.Replay.{Replay}
 use Rattle.files.specs.Replay.{line_limit, fed, writes, cut_portion, portion_room}
@@ -51,24 +49,24 @@ use Rattle.files.proofs.FeedLaws.{FeedTurn, fed_more, wrote_more}
 
 -- ---- one row
 
-module _ (c : Configuration) (plan : Plan) (way : Way) (line : List ℕ) (x : Row) (ready : WayReady plan way) (read : row_answer line way.done ≡ Accepted x) where
+module _ (c : Configuration) (settings : Settings) (way : Way) (line : List ℕ) (x : Row) (ready : WayReady settings way) (read : row_answer line way.done ≡ Ok x) where
   abbrev now : Progress
-  now = progress_on c plan.settings way
+  now = progress_on c settings way
 
-  ticked_right : relay_tick_answer plan.settings (relay_of way.courses) x.l1 x.l2 x.l3 x.block ≡ record { refusal = 0; state = next_relay plan.settings (relay_of way.courses) x.l1 x.l2 x.l3; outputs = byte_at plan.settings way x }
+  ticked_right : relay_tick_answer settings (relay_of way.courses) x.sample.l1 x.sample.l2 x.sample.l3 x.sample.block ≡ record { refusal = 0; state = next_relay settings (relay_of way.courses) x.sample.l1 x.sample.l2 x.sample.l3; outputs = byte_at settings way x }
   ticked_right =
-      relay_tick_accepted plan.settings (relay_of way.courses) x.l1 x.l2 x.l3 x.block
-      (relay_tick_allowed plan.settings (relay_of way.courses) x.block ready.accepted ready.step.valid (accepted_row line way.done x read).block)
+      relay_tick_accepted settings (relay_of way.courses) x.sample.l1 x.sample.l2 x.sample.l3 x.sample.block
+      (relay_tick_allowed settings (relay_of way.courses) x.sample.block ready.accepted ready.step.valid (accepted_row line way.done x read).block)
 
-  row_after : after_line now line ≡ progress_on c plan.settings (way_after plan.settings way x)
+  row_after : after_line now line ≡ progress_on c settings (way_after settings way x)
   unfolding after_by
   row_after =
-      let after = next_relay plan.settings (relay_of way.courses) x.l1 x.l2 x.l3 in
+      let after = next_relay settings (relay_of way.courses) x.sample.l1 x.sample.l2 x.sample.l3 in
       ap (stepped now) read
       ∙ rw ticked_right
-      (ap (λ (r : RelayState). record { configuration = c; stage = Running; settings = plan.settings; relay = r; done = way.done + 1; outputs = byte_at plan.settings way x }) (is_three after (next_three plan.settings (relay_of way.courses) x.l1 x.l2 x.l3)))
+      (ap (λ (r : RelayState). record { configuration = c; stage = Running; settings = settings; relay = r; done = way.done + 1; outputs = byte_at settings way x }) (is_three after (next_three settings (relay_of way.courses) x.sample.l1 x.sample.l2 x.sample.l3)))
 
-  row_wrote : wrote_line Changes now line ≡ change_at plan.settings way x
+  row_wrote : wrote_line Changes now line ≡ change_at settings way x
   unfolding wrote_by
   row_wrote = ap (noted Changes now) read ∙ rw ticked_right
 
@@ -86,7 +84,7 @@ onward_then portion i j k s t u v w a b same = record {
   short = omega (arith, a.short, rw (← same) at b.short, length-append v w);
 }
 
-module _ (plan : Plan) (way : Way) (portion : List ℕ) (i : ℕ) (x : Front) (ready : WayReady plan way) (f : AtFront portion i way.done x) where
+module _ (settings : Settings) (way : Way) (portion : List ℕ) (i : ℕ) (x : Front) (ready : WayReady settings way) (f : AtFront portion i way.done x) where
   -- room for its change line
   pub front_room_law : i + change_room ≤ x.next
   front_room_law = omega (arith, f.place, (accepted_row f.line way.done x.row f.accepted).long)
@@ -94,52 +92,54 @@ module _ (plan : Plan) (way : Way) (portion : List ℕ) (i : ℕ) (x : Front) (r
   pub front_number : way.done + 1 ≤ last_row
   front_number = omega (arith, (accepted_row f.line way.done x.row f.accepted).number)
 
-  front_on : (c : Configuration) → (wrote : List ℕ) → wrote ≡ change_at plan.settings way x.row → length wrote ≤ change_room
-      → Onward portion i (still Changes (progress_on c plan.settings way)) x.next (still Changes (progress_on c plan.settings (way_after plan.settings way x.row))) wrote
+  front_on : (c : Configuration) → (wrote : List ℕ) → wrote ≡ change_at settings way x.row → length wrote ≤ change_room
+      → Onward portion i (still Changes (progress_on c settings way)) x.next (still Changes (progress_on c settings (way_after settings way x.row))) wrote
   front_on c wrote w few =
-      let s = still Changes (progress_on c plan.settings way) in
+      let s = still Changes (progress_on c settings way) in
       let line = f.line in
       let rest = drop x.next portion in
       let cut : cut_portion s (drop i portion) ≡ one_more line (cutting CrLf line_limit [] rest) = ap (cutting CrLf line_limit []) f.here ∙ f.cut rest in
-      let after = row_after c plan way line x.row ready f.accepted in
+      let after = row_after c settings way line x.row ready f.accepted in
       record {
         farther = omega (arith, f.farther);
         within = f.within;
         state = fed_more s (drop i portion) line rest cut ∙ ap (λ (q : Progress). fed (still Changes q) rest) after;
-        bytes = wrote_more s (drop i portion) line rest cut ∙ rw (after, row_wrote c plan way line x.row ready f.accepted, ← w);
+        bytes = wrote_more s (drop i portion) line rest cut ∙ rw (after, row_wrote c settings way line x.row ready f.accepted, ← w);
         short = omega (arith, few, front_room_law);
       }
 
 -- ---- the rows one after the other
 
-pub rows_first : (settings : Settings) (begun : Way) (portion : List ℕ) (from : ℕ) (out : List ℕ) (at : ℕ) → from ≤ length portion → RowsRan settings begun portion from out out at (record { way = begun; next = from; written = at })
-rows_first settings begun portion from out at h =
-    record { wrote = []; on = λ c. onward_none portion from (still Changes (progress_on c settings begun)) h; output = refl; place = omega arith }
+-- what was written is as long as it is
+exact : {room : ℕ} {a b : Page} {bytes : List ℕ} → Put room a b bytes → Put (length bytes) a b bytes
+exact w = record { same_buffer = w.same_buffer; as_long = w.as_long; place_after = w.place_after; output = w.output; short = omega arith }
 
-pub rows_again : (plan : Plan) (begun way after : Way) (portion : List ℕ) (from next : ℕ) (before out out' : List ℕ) (at written end : ℕ) (x : Front)
-    → RowsRan plan.settings begun portion from before out at (record { way = way; next = next; written = written })
-    → WayReady plan way → AtFront portion next way.done x → after ≡ way_after plan.settings way x.row
-    → WroteWithin change_room out out' written end (change_at plan.settings way x.row)
-    → RowsRan plan.settings begun portion from before out' at (record { way = after; next = x.next; written = end })
-rows_again plan begun way after portion from next before out out' at written end x r ready f a w =
-    let change = change_at plan.settings way x.row in
-    let few : length change ≤ change_room = omega (arith, w.wrote.place_after, w.short) in
+pub rows_first : (settings : Settings) (begun : Way) (portion : List ℕ) (from : ℕ) (page : Page) → from ≤ length portion → RowsRan settings begun portion from page page (record { reached = begun; next = from })
+rows_first settings begun portion from page h =
+    record { wrote = []; on = λ c. onward_none portion from (still Changes (progress_on c settings begun)) h; put = put_nothing page 0 }
+
+pub rows_again : (settings : Settings) (begun way after : Way) (portion : List ℕ) (from next : ℕ) (before now then : Page) (x : Front)
+    → RowsRan settings begun portion from before now (record { reached = way; next = next })
+    → WayReady settings way → AtFront portion next way.done x → after ≡ way_after settings way x.row
+    → Put change_room now then (change_at settings way x.row)
+    → RowsRan settings begun portion from before then (record { reached = after; next = x.next })
+rows_again settings begun way after portion from next before now then x r ready f a w =
+    let change = change_at settings way x.row in
     record {
       wrote = r.wrote ++ change;
-      on = λ c. rw a (onward_then portion from next x.next _ _ _ r.wrote change (r.on c) (front_on plan way portion next x ready f c change refl few) refl);
-      output = w.wrote.output ∙ ap (λ (o : List ℕ). sets o written change) r.output ∙ rw r.place (sym (sets_append before at r.wrote change));
-      place = omega (arith, w.wrote.place_after, r.place, length-append r.wrote change);
+      on = λ c. rw a (onward_then portion from next x.next _ _ _ r.wrote change (r.on c) (front_on settings way portion next x ready f c change refl w.short) refl);
+      put = exact (put_then r.put w);
     }
 
-pub ready_again : (plan : Plan) (way after : Way) (x : Row) → WayReady plan way → after ≡ way_after plan.settings way x → WayReady plan after
-ready_again plan way after x r a =
-    rw a (record { step = step_leaves_ready plan way.courses x.l1 x.l2 x.l3 x.block r.step; accepted = r.accepted })
+pub ready_again : (settings : Settings) (way after : Way) (x : Row) → WayReady settings way → after ≡ way_after settings way x → WayReady settings after
+ready_again settings way after x r a =
+    rw a (record { step = step_leaves_ready settings way.courses x.sample.l1 x.sample.l2 x.sample.l3 x.sample.block r.step; accepted = r.accepted })
 
 -- the room that is left
-pub rows_room : (settings : Settings) (begun : Way) (portion : List ℕ) (from : ℕ) (before out : List ℕ) (at : ℕ) (r : RowsDone) (c : Configuration) → RowsRan settings begun portion from before out at r → at + (length portion - from) ≤ length before → r.written + (length portion - r.next) ≤ length before
-rows_room settings begun portion from before out at r c ran h =
+pub rows_room : (settings : Settings) (begun : Way) (portion : List ℕ) (from : ℕ) (before now : Page) (r : Ahead Way) (c : Configuration) → RowsRan settings begun portion from before now r → before.at + (length portion - from) ≤ length before.out.now → now.at + (length portion - r.next) ≤ length now.out.now
+rows_room settings begun portion from before now r c ran h =
     let on = ran.on c in
-    omega (arith, h, ran.place, on.short, on.farther, on.within)
+    omega (arith, h, ran.put.place_after, ran.put.as_long, on.short, on.farther, on.within)
 
 -- ---- a replay that runs rows so
 
@@ -175,9 +175,8 @@ quick form p e =
       accepted = settings_not_refused p.settings _ none;
     }
 
-pub way_ready : (form : Form) (p : Progress) (plan : Plan) (way : Way) → Quick form p → plan ≡ plan_of p.settings → way ≡ way_from p → WayReady plan way
-way_ready form p plan way q e w =
-    rw (w, e) (record { step = begins_ready p.settings p.relay q.range q.valid; accepted = rw (plan_settings p.settings) q.accepted })
+pub way_ready : (form : Form) (p : Progress) → Quick form p → WayReady p.settings (way_from p)
+way_ready form p q = record { step = begins_ready p.settings p.relay q.valid; accepted = q.accepted }
 
 -- the way that begins at a progress is that progress
 begins_at : (form : Form) (p : Progress) → Quick form p → length p.relay.phases ≡ 3 → progress_on p.configuration p.settings (way_from p) ≡ p
@@ -185,23 +184,19 @@ begins_at form p q long =
     ap (λ (s : Stage). record { configuration = p.configuration; stage = s; settings = p.settings; relay = relay_of (courses_from p.settings p.relay); done = p.done; outputs = p.outputs }) (sym q.running)
     ∙ ap (λ (r : RelayState). record { configuration = p.configuration; stage = p.stage; settings = p.settings; relay = r; done = p.done; outputs = p.outputs }) (sym (is_three p.relay long))
 
-pub ran_ahead : (form : Form) (p : Progress) (portion : List ℕ) (from : ℕ) (before after : List ℕ) (at : ℕ) (plan : Plan) (way : Way) (r : RowsDone) (progress : Progress)
-    → Quick form p → length p.relay.phases ≡ 3 → plan ≡ plan_of p.settings → way ≡ way_from p → RowsRan plan.settings way portion from before after at r
-    → progress ≡ progress_on p.configuration p.settings r.way → RanAhead form p portion from before after at (record { progress = progress; next = r.next; written = r.written })
-ran_ahead form p portion from before after at plan way r progress q long e w ran end =
-    let own : plan.settings ≡ p.settings = plan_is plan p.settings e in
-    let begun : progress_on p.configuration plan.settings way ≡ p = rw (own, w) (begins_at form p q long) in
-    let ended : progress_on p.configuration plan.settings r.way ≡ progress = rw own (sym end) in
+pub ran_ahead : (form : Form) (p : Progress) (portion : List ℕ) (from : ℕ) (before after : Page) (r : Ahead Way) (progress : Progress)
+    → Quick form p → length p.relay.phases ≡ 3 → RowsRan p.settings (way_from p) portion from before after r
+    → progress ≡ progress_on p.configuration p.settings r.reached → RanAhead form p portion from before after (record { reached = progress; next = r.next })
+ran_ahead form p portion from before after r progress q long ran end =
     record {
       wrote = ran.wrote;
-      on = rw q.changes (rw ended at (rw begun at (ran.on p.configuration)));
-      output = ran.output;
-      place = ran.place;
+      on = rw q.changes (rw (sym end) at (rw (begins_at form p q long) at (ran.on p.configuration)));
+      put = ran.put;
     }
 
 -- and one that does not
-pub not_ahead : (form : Form) (p : Progress) (portion : List ℕ) (from : ℕ) (out : List ℕ) (at : ℕ) → from ≤ length portion → RanAhead form p portion from out out at (record { progress = p; next = from; written = at })
-not_ahead form p portion from out at h = record { wrote = []; on = onward_none portion from (still form p) h; output = refl; place = omega arith }
+pub not_ahead : (form : Form) (p : Progress) (portion : List ℕ) (from : ℕ) (page : Page) → from ≤ length portion → RanAhead form p portion from page page (record { reached = p; next = from })
+not_ahead form p portion from page h = record { wrote = []; on = onward_none portion from (still form p) h; put = put_nothing page 0 }
 
 -- ---- the turns of a portion
 

@@ -10,6 +10,7 @@ use lib.IntN.{ℤ, pos, ◌-ℤ◌}
 use mir.Syntax.{w64}
 use mir.Val.{SFits, to_z, of_z}
 use mir.ValLaws.{to_z-of_z}
+use Rattle.std.specs.Prelude.{None}
 use Rattle.checks.specs.Checks.{check, lowest}
 use Rattle.checks.specs.Range.{in_range}
 use Rattle.checks.proofs.PassedLaws.{all_passed}
@@ -17,7 +18,6 @@ use Rattle.checks.proofs.Tests.{in_range_law}
 use Rattle.phase.specs.declared.settings.Settings.{Settings}
 use Rattle.grading.specs.declared.margin.Margin.{Margin}
 use Rattle.grading.specs.declared.refusal.Refusal.{Refusal}
-use Rattle.grading.specs.declared.refusal.Relay.TheVariants.{Neither}
 use Rattle.grading.specs.FirstTrip.{longest_wait, first_trip_at}
 use Rattle.grading.specs.Margin.{lowest_ratio, highest_ratio, difference_at, margin_refusal, margin_of, refused_margin, margin_answer}
 use Rattle.grading.specs.Refusal.{refusal_of, pair_refusal}
@@ -28,7 +28,7 @@ use Rattle.grading.proofs.RefusalLaws.{pair_passed, pair_allowed}
 use Rattle.grading.proofs.SignedLaws.{difference_fits}
 
 -- a margin as the code makes it: the difference goes through its 64 bits
-pub margin_by_trips : (upstream downstream : Settings) (ratio a b : ℕ) (z : ℤ) → a ≡ first_trip_at upstream ratio → b ≡ first_trip_at downstream ratio → a ≤ longest_wait → b ≤ longest_wait → z ≡ pos a -ℤ pos b → record { refusal = refusal_of Neither 0; upstream = a; downstream = b; difference = to_z w64 (of_z w64 z) } ≡ margin_of upstream downstream ratio
+pub margin_by_trips : (upstream downstream : Settings) (ratio a b : ℕ) (z : ℤ) → a ≡ first_trip_at upstream ratio → b ≡ first_trip_at downstream ratio → a ≤ longest_wait → b ≤ longest_wait → z ≡ pos a -ℤ pos b → record { refusal = refusal_of None 0; upstream = a; downstream = b; difference = to_z w64 (of_z w64 z) } ≡ margin_of upstream downstream ratio
 unfolding difference_at
 margin_by_trips upstream downstream ratio a b z above below h k e =
     rw (to_z-of_z w64 z (rw e (difference_fits a b h k)), e, above, below)
@@ -49,6 +49,10 @@ module _ (upstream downstream : Settings) (ratio : ℕ) where
       let (low, high) = in_range_law lowest_ratio highest_ratio ratio (all_passed (check (in_range lowest_ratio highest_ratio ratio) wrong_ratio ∷ []) 0 refl own).0.0 in
       (pair, low, high)
 
+  pub margin_passed_by_parts : (own : ℕ) (all : Refusal) → own ≡ lowest (check (in_range lowest_ratio highest_ratio ratio) wrong_ratio ∷ []) → all ≡ pair_refusal upstream downstream own → all.number ≡ 0 → Pair upstream downstream × (lowest_ratio ≤ ratio) × (ratio ≤ highest_ratio)
+  margin_passed_by_parts own all e f none =
+      margin_passed (ap (λ (r : Refusal). r.number) (sym (margin_refusal_by_parts own all e f)) ∙ none)
+
   pub margin_accepted : (margin_refusal upstream downstream ratio).number ≡ 0 → margin_answer upstream downstream ratio ≡ margin_of upstream downstream ratio
   unfolding margin_answer
   margin_accepted e = rw (eq-eqb _ 0 e)
@@ -65,7 +69,7 @@ same_difference upstream downstream upstream' downstream' pair pair' above below
     rw (same_first_trip upstream upstream' pair.above pair'.above above ratio low high, same_first_trip downstream downstream' pair.below pair'.below below ratio low high)
 
 -- nor do they in what `margin_at` answers, at any ratio
-refused_by_ratio : (upstream downstream : Settings) (ratio : ℕ) → Pair upstream downstream → margin_refusal upstream downstream ratio ≡ refusal_of Neither (lowest (check (in_range lowest_ratio highest_ratio ratio) wrong_ratio ∷ []))
+refused_by_ratio : (upstream downstream : Settings) (ratio : ℕ) → Pair upstream downstream → margin_refusal upstream downstream ratio ≡ refusal_of None (lowest (check (in_range lowest_ratio highest_ratio ratio) wrong_ratio ∷ []))
 unfolding margin_refusal
 refused_by_ratio upstream downstream ratio pair = pair_allowed upstream downstream _ pair
 
@@ -77,10 +81,10 @@ module _ (upstream downstream upstream' downstream' : Settings) (pair : Pair ups
   pub same_margin : (ratio : ℕ) → margin_answer upstream downstream ratio ≡ margin_answer upstream' downstream' ratio
   same_margin ratio = go (in_range lowest_ratio highest_ratio ratio) refl
     where
-      refusal : (b : Bool) → in_range lowest_ratio highest_ratio ratio ≡ b → refusal_of Neither (cond b 0 wrong_ratio) ≡ margin_refusal upstream downstream ratio
+      refusal : (b : Bool) → in_range lowest_ratio highest_ratio ratio ≡ b → refusal_of None (cond b 0 wrong_ratio) ≡ margin_refusal upstream downstream ratio
       refusal b e = sym (refused_by_ratio upstream downstream ratio pair ∙ rw e)
 
-      refusal' : (b : Bool) → in_range lowest_ratio highest_ratio ratio ≡ b → refusal_of Neither (cond b 0 wrong_ratio) ≡ margin_refusal upstream' downstream' ratio
+      refusal' : (b : Bool) → in_range lowest_ratio highest_ratio ratio ≡ b → refusal_of None (cond b 0 wrong_ratio) ≡ margin_refusal upstream' downstream' ratio
       refusal' b e = sym (refused_by_ratio upstream' downstream' ratio pair' ∙ rw e)
 
       go : (b : Bool) → in_range lowest_ratio highest_ratio ratio ≡ b → margin_answer upstream downstream ratio ≡ margin_answer upstream' downstream' ratio
@@ -90,5 +94,5 @@ module _ (upstream downstream upstream' downstream' : Settings) (pair : Pair ups
           ∙ same_margin_of ratio low high
           ∙ sym (margin_accepted upstream' downstream' ratio (ap (λ (r : Refusal). r.number) (sym (refusal' true e))))
       go false e =
-          margin_refused upstream downstream ratio (refusal_of Neither wrong_ratio) (refusal false e) (λ z. omega (arith, z))
-          ∙ sym (margin_refused upstream' downstream' ratio (refusal_of Neither wrong_ratio) (refusal' false e) (λ z. omega (arith, z)))
+          margin_refused upstream downstream ratio (refusal_of None wrong_ratio) (refusal false e) (λ z. omega (arith, z))
+          ∙ sym (margin_refused upstream' downstream' ratio (refusal_of None wrong_ratio) (refusal' false e) (λ z. omega (arith, z)))

@@ -29,6 +29,10 @@ module _ (upstream downstream : Settings) (room : ℕ) where
       let (pair, own) = pair_passed upstream downstream _ e in
       (pair, leb-true ratio_count room (all_passed (check (leb ratio_count room) short_list ∷ []) 0 refl own).0.0)
 
+  pub margins_passed_by_parts : (own : ℕ) (all : Refusal) → own ≡ lowest (check (leb ratio_count room) short_list ∷ []) → all ≡ pair_refusal upstream downstream own → all.number ≡ 0 → Pair upstream downstream × (ratio_count ≤ room)
+  margins_passed_by_parts own all e f none =
+      margins_passed (ap (λ (r : Refusal). r.number) (sym (margins_refusal_by_parts own all e f)) ∙ none)
+
 module _ (upstream downstream : Settings) (wanted : ℤ) (list : List ℕ) where
   pub margins_accepted : (margins_refusal upstream downstream (length list)).number ≡ 0 → margins_answer upstream downstream wanted list ≡ margins_of upstream downstream wanted list
   unfolding margins_answer

@@ -3,22 +3,16 @@
 use Prim.Native.Nat.{ℕ, suc, ◌+◌, ◌-◌, ◌≤◌, ◌<◌}
 use native.Mathlib.Numerals.{add-one}
 use native.Mathlib.Omega.{arith}
-use mathlib.Core.Bool.{Bool, true, false, cond, ◌||◌}
+use mathlib.Core.Bool.{Bool, true, false, cond}
 use mathlib.Core.List.{List, [], ◌∷◌, ◌++◌, append-nil}
-use mathlib.Core.Logic.{◌⊎◌, inl, inr}
 use mathlib.Core.Path.{◌≡◌, refl, sym, ◌∙◌, ap}
-use borrow.Author.Tests.{ne_eqb, eq-eqb}
-use lib.Dec.{eqb}
 use lib.IntN.{ℤ}
 use lib.ListN.{length, get_or, drop, set, length-append, length-drop}
 use lib.Seq.{drop-cons, append_snoc, set-append_seam}
 use lib.Signed.{lt_z}
-use mir.Syntax.{w64}
-use mir.Val.{SFits, to_z, of_z}
-use mir.ValLaws.{to_z-of_z}
+use Rattle.std.specs.Prelude.{Option, Some, None}
 use Rattle.phase.specs.declared.settings.Settings.{Settings}
 use Rattle.grading.specs.declared.margins.Smallest.{Smallest}
-use Rattle.grading.specs.declared.refusal.Relay.TheVariants.{Neither}
 use Rattle.grading.specs.Margin.{lowest_ratio, highest_ratio, difference_at}
 use Rattle.grading.specs.Margins.{up_from, those, ratio_count, too_close, smallest, smallest_at, margins_of, MarginsAnswer}
 use Rattle.grading.specs.Refusal.{refusal_of}
@@ -60,38 +54,35 @@ lay_next false given xs ratio h = rw (append-nil xs)
 laid_length : (given xs : List ℕ) → length xs ≤ length given → length (laid given xs).list ≡ length given
 laid_length given xs h = rw (length-append xs (drop (length xs) given), length-drop (length xs) given) (omega arith)
 
--- ---- the smallest
-
--- as the code finds it: both differences go through their 64 bits
-pub smaller_by : (before : Smallest) (z : ℤ) (ratio : ℕ) (t : Bool) → SFits w64 z → SFits w64 before.difference → eqb before.ratio 0 || lt_z (to_z w64 (of_z w64 z)) (to_z w64 (of_z w64 before.difference)) ≡ t → cond t (record { difference = to_z w64 (of_z w64 z); ratio = ratio }) before ≡ smaller_of before z ratio
-smaller_by before z ratio t fits fit e = rw (sym e, to_z-of_z w64 z fits, to_z-of_z w64 before.difference fit)
-
 -- ---- the invariant
 
-pub record PassTurn (d : ℕ → ℤ) (wanted : ℤ) (given : List ℕ) (ratio n : ℕ) (before : Smallest) (now : List ℕ) : Type 0 where
+-- none before the first ratio, and then the smallest of those before
+abbrev pub SoFar : (ℕ → ℤ) → ℕ → Option Smallest → Type 0
+SoFar d ratio None = ratio ≡ lowest_ratio
+SoFar d ratio (Some before) = SmallestOf d lowest_ratio ratio before.difference before.ratio
+
+pub record PassTurn (d : ℕ → ℤ) (wanted : ℤ) (given : List ℕ) (ratio n : ℕ) (before : Option Smallest) (now : List ℕ) : Type 0 where
   pub low : lowest_ratio ≤ ratio
   pub high : ratio ≤ highest_ratio + 1
   pub listed : record { count = n; list = now } ≡ laid given (listed_before d wanted ratio)
-  pub smallest : ((ratio ≡ lowest_ratio) × (before.ratio ≡ 0)) ⊎ SmallestOf d lowest_ratio ratio before.difference before.ratio
+  pub smallest : SoFar d ratio before
 
 module _ (d : ℕ → ℤ) (wanted : ℤ) (given : List ℕ) where
-  pub pass_begins : (none : Smallest) → none.ratio ≡ 0 → PassTurn d wanted given lowest_ratio 0 none given
+  pub pass_begins : PassTurn d wanted given lowest_ratio 0 None given
   unfolding up_from those
-  pass_begins none e =
-      record { low = omega arith; high = omega arith; listed = refl; smallest = inl (refl, e) }
+  pass_begins = record { low = omega arith; high = omega arith; listed = refl; smallest = refl }
 
   -- ---- one ratio on
 
-  smallest_next : (ratio : ℕ) (before : Smallest) → lowest_ratio ≤ ratio → ((ratio ≡ lowest_ratio) × (before.ratio ≡ 0)) ⊎ SmallestOf d lowest_ratio ratio before.difference before.ratio → SmallestOf d lowest_ratio (suc ratio) (smaller_of before (d ratio) ratio).difference (smaller_of before (d ratio) ratio).ratio
-  smallest_next ratio before low (inl (first, none)) = rw (eq-eqb _ 0 none) (first_is_smallest d lowest_ratio ratio (sym first))
-  smallest_next ratio before low (inr s) =
-      rw (ne_eqb before.ratio 0 (λ z. let f = s.from in omega (arith, z, f))) (go (lt_z (d ratio) before.difference) refl)
+  smallest_next : (ratio : ℕ) (before : Option Smallest) → SoFar d ratio before → SoFar d (suc ratio) (Some (smaller_of before (d ratio) ratio))
+  smallest_next ratio None first = first_is_smallest d lowest_ratio ratio (sym first)
+  smallest_next ratio (Some before) found = go (lt_z (d ratio) before.difference) refl
     where
-      go : (b : Bool) → lt_z (d ratio) before.difference ≡ b → SmallestOf d lowest_ratio (suc ratio) (cond b (record { difference = d ratio; ratio = ratio }) before).difference (cond b (record { difference = d ratio; ratio = ratio }) before).ratio
-      go true q = smaller_found d lowest_ratio ratio _ _ s q
-      go false q = none_found d lowest_ratio ratio _ _ s q
+      go : (b : Bool) → lt_z (d ratio) before.difference ≡ b → SoFar d (suc ratio) (Some (cond b (record { difference = d ratio; ratio = ratio }) before))
+      go true q = smaller_found d lowest_ratio ratio _ _ found q
+      go false q = none_found d lowest_ratio ratio _ _ found q
 
-  module _ (ratio n : ℕ) (before : Smallest) (now : List ℕ) (turn : PassTurn d wanted given ratio n before now) (room : ratio_count ≤ length given) where
+  module _ (ratio n : ℕ) (before : Option Smallest) (now : List ℕ) (turn : PassTurn d wanted given ratio n before now) (room : ratio_count ≤ length given) where
     few : length (listed_before d wanted ratio) ≤ ratio - lowest_ratio
     few = those_at_most (λ m. lt_z (d m) wanted) lowest_ratio (ratio - lowest_ratio)
 
@@ -105,7 +96,7 @@ module _ (d : ℕ → ℤ) (wanted : ℤ) (given : List ℕ) where
         let count : n ≡ length (listed_before d wanted ratio) = ap (λ (c : Counted). c.count) turn.listed in
         omega (arith, few, count, pass_keeps_length)
 
-    pub pass_again : ratio ≤ highest_ratio → (after : Smallest) (m : ℕ) (list : List ℕ) → after ≡ smaller_of before (d ratio) ratio → record { count = m; list = list } ≡ counted now n ratio (lt_z (d ratio) wanted) → PassTurn d wanted given (ratio + 1) m after list
+    pub pass_again : ratio ≤ highest_ratio → (after : Smallest) (m : ℕ) (list : List ℕ) → after ≡ smaller_of before (d ratio) ratio → record { count = m; list = list } ≡ counted now n ratio (lt_z (d ratio) wanted) → PassTurn d wanted given (ratio + 1) m (Some after) list
     pass_again going after m list e f =
         record {
           low = omega (arith, turn.low);
@@ -114,7 +105,7 @@ module _ (d : ℕ → ℤ) (wanted : ℤ) (given : List ℕ) where
               ∙ ap (λ (c : Counted). counted c.list c.count ratio (lt_z (d ratio) wanted)) turn.listed
               ∙ lay_next (lt_z (d ratio) wanted) given (listed_before d wanted ratio) ratio (omega (arith, few))
               ∙ ap (laid given) (sym (listed_next d wanted ratio turn.low));
-          smallest = inr (rw (e, add-one) (smallest_next ratio before turn.low turn.smallest));
+          smallest = rw (e, add-one) (smallest_next ratio before turn.smallest);
         }
 
 -- ---- at the end
@@ -125,19 +116,16 @@ unfolding smallest smallest_at
 smallest_means upstream downstream = smallest_is (difference_at upstream downstream) lowest_ratio ratio_count (omega arith) _ refl
 
 abbrev pub answer_of : ℤ → ℕ → Counted → MarginsAnswer
-answer_of z at c = record { answer = record { refusal = refusal_of Neither 0; count = c.count; smallest = z; ratio = at }; list = c.list }
+answer_of z at c = record { answer = record { refusal = refusal_of None 0; count = c.count; smallest = z; ratio = at }; list = c.list }
 
 module _ (upstream downstream : Settings) (wanted : ℤ) (given : List ℕ) where
   all_listed : (ratio : ℕ) → ratio ≡ highest_ratio + 1 → listed_before (difference_at upstream downstream) wanted ratio ≡ too_close upstream downstream wanted
   unfolding too_close
   all_listed ratio e = rw e
 
-  whole : (ratio : ℕ) (before : Smallest) → ratio ≡ highest_ratio + 1 → ((ratio ≡ lowest_ratio) × (before.ratio ≡ 0)) ⊎ SmallestOf (difference_at upstream downstream) lowest_ratio ratio before.difference before.ratio → SmallestOf (difference_at upstream downstream) lowest_ratio (highest_ratio + 1) before.difference before.ratio
-  whole ratio before e (inl (first, none)) = absurd (omega arith)
-  whole ratio before e (inr s) = rw e at s
-
-  pub pass_ends : (ratio n : ℕ) (before : Smallest) (now : List ℕ) → PassTurn (difference_at upstream downstream) wanted given ratio n before now → highest_ratio < ratio → answer_of before.difference before.ratio (record { count = n; list = now }) ≡ margins_of upstream downstream wanted given
+  pub pass_ends : (ratio n : ℕ) (before : Smallest) (now : List ℕ) → PassTurn (difference_at upstream downstream) wanted given ratio n (Some before) now → highest_ratio < ratio → answer_of before.difference before.ratio (record { count = n; list = now }) ≡ margins_of upstream downstream wanted given
   pass_ends ratio n before now turn over =
       let last : ratio ≡ highest_ratio + 1 = omega (arith, turn.high, over) in
-      let (z, at) = smallest_alone (difference_at upstream downstream) lowest_ratio (highest_ratio + 1) _ _ _ _ (whole ratio before last turn.smallest) (smallest_means upstream downstream) in
+      let found : SmallestOf (difference_at upstream downstream) lowest_ratio (highest_ratio + 1) before.difference before.ratio = rw last at turn.smallest in
+      let (z, at) = smallest_alone (difference_at upstream downstream) lowest_ratio (highest_ratio + 1) _ _ _ _ found (smallest_means upstream downstream) in
       rw (z, at) (ap (answer_of (smallest upstream downstream) (smallest_at upstream downstream)) (turn.listed ∙ ap (laid given) (all_listed ratio last)))

@@ -1,11 +1,10 @@
 -- The margin between two relays at a ratio (02, E9).
-use Rattle.std.specs.Prelude.{ℕ, cond, [], ◌∷◌, eqb, ℤ, pos, ◌-ℤ◌}
+use Rattle.std.specs.Prelude.{ℕ, None, cond, [], ◌∷◌, eqb, ℤ, pos, ◌-ℤ◌}
 use Rattle.checks.specs.Checks.{check, lowest}
 use Rattle.checks.specs.Range.{in_range}
 use Rattle.phase.specs.declared.settings.Settings.{Settings}
 use Rattle.grading.specs.declared.margin.Margin.{Margin}
 use Rattle.grading.specs.declared.refusal.Refusal.{Refusal}
-use Rattle.grading.specs.declared.refusal.Relay.TheVariants.{Neither}
 use Rattle.grading.specs.FirstTrip.{first_trip_at}
 use Rattle.grading.specs.Refusal.{refusal_of, pair_refusal}
 use Rattle.grading.specs.Refusals.{wrong_ratio}
@@ -29,7 +28,7 @@ margin_refusal upstream downstream ratio =
 abbrev pub margin_of : Settings → Settings → ℕ → Margin
 margin_of upstream downstream ratio =
     record {
-      refusal = refusal_of Neither 0;
+      refusal = refusal_of None 0;
       upstream = first_trip_at upstream ratio;
       downstream = first_trip_at downstream ratio;
       difference = difference_at upstream downstream ratio;

@@ -1,11 +1,10 @@
 -- The ratios at which the margin between two relays is too small (02, E9), and the smallest margin.
-use Rattle.std.specs.Prelude.{ℕ, zero, suc, Bool, cond, ◌&&◌, List, [], ◌∷◌, ◌++◌, map, leb, eqb, ℤ, pos, length, get_or, drop}
+use Rattle.std.specs.Prelude.{ℕ, None, zero, suc, Bool, cond, ◌&&◌, List, [], ◌∷◌, ◌++◌, map, leb, eqb, ℤ, pos, length, get_or, drop}
 use Rattle.std.specs.Int.Signed.{lt_z, le_z}
 use Rattle.checks.specs.Checks.{check, lowest}
 use Rattle.phase.specs.declared.settings.Settings.{Settings}
 use Rattle.grading.specs.declared.margins.Graded.{Graded}
 use Rattle.grading.specs.declared.refusal.Refusal.{Refusal}
-use Rattle.grading.specs.declared.refusal.Relay.TheVariants.{Neither}
 use Rattle.grading.specs.Margin.{lowest_ratio, difference_at}
 use Rattle.grading.specs.Refusal.{refusal_of, pair_refusal}
 use Rattle.grading.specs.Refusals.{short_list}
@@ -65,7 +64,7 @@ margins_of upstream downstream wanted list =
     let found : List ℕ = too_close upstream downstream wanted in
     record {
       answer = record {
-        refusal = refusal_of Neither 0;
+        refusal = refusal_of None 0;
         count = length found;
         smallest = smallest upstream downstream;
         ratio = smallest_at upstream downstream;

@@ -7,3 +7,4 @@ pub mod margin;
 pub mod margins;
 pub mod refusal;
 pub mod refusals;
+mod tripping;

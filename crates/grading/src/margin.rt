@@ -2,14 +2,15 @@
 ghost use Rattle.std.specs.Prelude.{◌≡◌, ◌≤◌, pos, ◌-ℤ◌};
 ghost use Rattle.grading.specs.FirstTrip.{longest_wait};
 ghost use Rattle.grading.specs.Margin.{lowest_ratio, highest_ratio, margin_of, margin_answer};
-ghost use Rattle.grading.specs.device.Ready.{Pair};
 
 use crate::first_trip::first_trip;
-use crate::refusal::{Refusal, Relay, pair_refusal};
+use crate::refusal::{Refusal, pair_refusal};
 use crate::refusals::WRONG_RATIO;
+use crate::tripping::Tripping;
 use checks::{first_failed, in_range};
 use phase::Settings;
 
+// The refusal stands beside the numbers, and no `Err`: those of a refused call are 0 (`refused_margin`).
 // The first trip tick of each, and upstream's less downstream's.
 #[derive(Clone, Copy)]
 pub struct Margin {
@@ -34,9 +35,9 @@ pub fn difference(upstream: u64, downstream: u64) -> i64
 }
 
 // A margin of relays and a ratio that were checked before.
-pub(crate) fn margin_ready(upstream: Settings, downstream: Settings, ratio: u32) -> Margin
-    requires { (Pair upstream downstream) × (lowest_ratio ≤ ratio) × (ratio ≤ highest_ratio) }
-    ensures { result ≡ margin_of upstream downstream ratio }
+pub(crate) fn margin_ready(upstream: Tripping, downstream: Tripping, ratio: u32) -> Margin
+    requires { (lowest_ratio ≤ ratio) × (ratio ≤ highest_ratio) }
+    ensures { result ≡ margin_of upstream.settings downstream.settings ratio }
 {
     let above = first_trip(upstream, ratio);
     let below = first_trip(downstream, ratio);
@@ -44,7 +45,7 @@ pub(crate) fn margin_ready(upstream: Settings, downstream: Settings, ratio: u32)
     Margin {
         refusal: Refusal {
             number: 0,
-            relay: Relay::Neither,
+            relay: None,
         },
         upstream: above,
         downstream: below,
@@ -66,5 +67,11 @@ pub fn margin_at(upstream: Settings, downstream: Settings, ratio: u32) -> Margin
             difference: 0,
         };
     }
-    margin_ready(upstream, downstream, ratio)
+    margin_ready(
+        Tripping { settings: upstream },
+        Tripping {
+            settings: downstream,
+        },
+        ratio,
+    )
 }

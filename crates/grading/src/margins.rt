@@ -2,14 +2,15 @@
 ghost use Rattle.std.specs.Prelude.{◌≡◌, ◌≤◌, ◌<◌, length};
 ghost use Rattle.grading.specs.Margins.{ratio_count, margins_of, margins_answer};
 ghost use Rattle.grading.specs.device.Pass.{counted, smaller_of};
-ghost use Rattle.grading.specs.device.Ready.{Pair};
 
 use crate::margin::{Margin, margin_ready};
-use crate::refusal::{Refusal, Relay, pair_refusal};
+use crate::refusal::{Refusal, pair_refusal};
 use crate::refusals::SHORT_LIST;
+use crate::tripping::Tripping;
 use checks::first_failed;
 use phase::Settings;
 
+// The refusal stands beside the numbers, and no `Err`: those of a refused call are 0 (`refused_margins`).
 // How many ratios were listed; the smallest difference, and the lowest ratio that has it.
 #[derive(Clone, Copy)]
 pub struct Graded {
@@ -24,24 +25,29 @@ impl Graded {
     pub const RATIO_COUNT: usize = 1900;
 }
 
-// The smallest difference so far, and the ratio that had it first; at first none, which a ratio of 0 tells.
+// The smallest difference so far, and the ratio that had it first.
 #[derive(Clone, Copy)]
 struct Smallest {
     difference: i64,
     ratio: u32,
 }
 
-fn smaller(before: Smallest, difference: i64, ratio: u32) -> Smallest
+fn smaller(before: Option<Smallest>, difference: i64, ratio: u32) -> Smallest
     ensures { result ≡ smaller_of before difference ratio }
 {
-    let least = before.difference;
-    if (before.ratio == 0) | (difference < least) {
-        return Smallest { difference, ratio };
+    let next = Smallest { difference, ratio };
+    match before {
+        None => next,
+        Some(least) => if difference < least.difference {
+            next
+        } else {
+            least
+        },
     }
-    before
 }
 
-// Lists a ratio that is too close, after those that were listed before, and answers how many there are.
+// Lists a ratio that is too close, after those that were listed before, and answers how many there are. The list is the caller's, with a
+// count beside it: this crate has no heap for one of its own.
 fn list_ratio(list: &mut [u32], count: usize, ratio: u32, is_close: bool) -> usize
     requires { count < length list.old }
     ensures { record { count = result; list = list.new } ≡ counted list.old count ratio (is_close) }
@@ -54,28 +60,22 @@ fn list_ratio(list: &mut [u32], count: usize, ratio: u32, is_close: bool) -> usi
 }
 
 // One pass over the ratios, of relays that were checked before.
-fn pass(upstream: Settings, downstream: Settings, wanted: i64, list: &mut [u32]) -> Graded
-    requires { (Pair upstream downstream) × (ratio_count ≤ length list.old) }
-    ensures { record { answer = result; list = list.new } ≡ margins_of upstream downstream wanted list.old }
+fn pass(upstream: Tripping, downstream: Tripping, wanted: i64, list: &mut [u32]) -> Graded
+    requires { ratio_count ≤ length list.old }
+    ensures { record { answer = result; list = list.new } ≡ margins_of upstream.settings downstream.settings wanted list.old }
 {
     let mut count = 0;
-    let mut smallest = Smallest {
-        difference: 0,
-        ratio: 0,
-    };
-    let mut ratio = Margin::LOWEST_RATIO;
-    while ratio <= Margin::HIGHEST_RATIO {
-        let margin = margin_ready(upstream, downstream, ratio);
-        let difference = margin.difference;
+    let mut so_far = None;
+    for ratio in Margin::LOWEST_RATIO..=Margin::HIGHEST_RATIO {
+        let difference = margin_ready(upstream, downstream, ratio).difference;
         count = list_ratio(list, count, ratio, difference < wanted);
-        let next = smaller(smallest, difference, ratio);
-        smallest = next;
-        ratio += 1;
+        so_far = Some(smaller(so_far, difference, ratio));
     }
+    let smallest = so_far.unwrap();
     Graded {
         refusal: Refusal {
             number: 0,
-            relay: Relay::Neither,
+            relay: None,
         },
         count,
         smallest: smallest.difference,
@@ -98,5 +98,12 @@ pub fn margins(upstream: Settings, downstream: Settings, wanted: i64, list: &mut
             ratio: 0,
         };
     }
-    pass(upstream, downstream, wanted, list)
+    pass(
+        Tripping { settings: upstream },
+        Tripping {
+            settings: downstream,
+        },
+        wanted,
+        list,
+    )
 }

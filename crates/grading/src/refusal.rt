@@ -1,7 +1,7 @@
 // What a call on two relays is refused with, and the relay that this names.
 ghost use Rattle.std.specs.Prelude.{◌≡◌};
 ghost use Rattle.checks.specs.Checks.{lowest};
-ghost use Rattle.grading.specs.Refusal.{graded_checks, refusal_of, pair_refusal};
+ghost use Rattle.grading.specs.Refusal.{graded_checks, pair_refusal};
 ghost use Rattle.grading.specs.device.Lower.{lower_of};
 
 use crate::refusals::NOT_GRADED;
@@ -9,30 +9,24 @@ use checks::first_failed;
 use phase::Settings;
 use phase::settings::settings_first_failed;
 
-#[derive(Clone, Copy)]
+#[derive(Clone, Copy, PartialEq, Eq)]
 pub enum Relay {
-    Neither,
     Upstream,
     Downstream,
 }
 
-#[derive(Clone, Copy)]
+// A number of 0 is no refusal; one that is of neither relay names none.
+#[derive(Clone, Copy, PartialEq, Eq)]
 pub struct Refusal {
     pub number: u32,
-    pub relay: Relay,
-}
-
-fn refusal_of(relay: Relay, number: u32) -> Refusal
-    ensures { result ≡ refusal_of relay number }
-{
-    Refusal { number, relay }
+    pub relay: Option<Relay>,
 }
 
 // What one relay is refused with, 0 for nothing.
 fn graded_first_failed(settings: Settings) -> u32
     ensures { result ≡ lowest (graded_checks settings) }
 {
-    let trips = (2 <= settings.operation) & (settings.start_only == 0);
+    let trips = 2 <= settings.operation && settings.start_only == 0;
     settings_first_failed(settings, first_failed(trips, NOT_GRADED, 0))
 }
 
@@ -40,19 +34,27 @@ fn graded_first_failed(settings: Settings) -> u32
 pub fn lower_of(upstream: u32, downstream: u32, rest: u32) -> Refusal
     ensures { result ≡ lower_of upstream downstream rest }
 {
-    if upstream == 0 {
-        if downstream == 0 {
-            return refusal_of(Relay::Neither, rest);
-        }
-        return refusal_of(Relay::Downstream, downstream);
+    let of_upstream = Refusal {
+        number: upstream,
+        relay: Some(Relay::Upstream),
+    };
+    let of_downstream = Refusal {
+        number: downstream,
+        relay: Some(Relay::Downstream),
+    };
+    match (upstream, downstream) {
+        (0, 0) => Refusal {
+            number: rest,
+            relay: None,
+        },
+        (0, _) => of_downstream,
+        (_, 0) => of_upstream,
+        _ => if upstream <= downstream {
+            of_upstream
+        } else {
+            of_downstream
+        },
     }
-    if downstream == 0 {
-        return refusal_of(Relay::Upstream, upstream);
-    }
-    if upstream <= downstream {
-        return refusal_of(Relay::Upstream, upstream);
-    }
-    refusal_of(Relay::Downstream, downstream)
 }
 
 // What two relays are refused with, else `rest`, which names neither.

@@ -12,6 +12,7 @@ use crate::state::PhaseState;
 
 // Whether a tick with this sample is started: a phase that was started on its last tick drops out below 95 %, one that was not starts
 // above 100 %.
+#[tactic(auto, unfolding(crate::specs::Tick::started))]
 pub fn is_started(settings: CheckedSettings, state: PhaseState, sample: u32) -> bool
     ensures { result ≡ started settings.settings state sample }
 {

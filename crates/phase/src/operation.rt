@@ -21,12 +21,12 @@ pub enum Kind {
     On(Timing),
 }
 
-// Off where the document has no such operation.
+// Off where the document has no such operation. A function, and no `From`: docs/SHEET.md names it as a call, with its own promise.
+#[tactic(auto, unfolding(crate::specs::Operation::kind_of))]
 pub fn kind_of(operation: u32) -> Kind
     ensures { result ≡ kind_of operation }
 {
     match operation {
-        0 => Kind::Off,
         1 => Kind::On(Timing::Definite),
         2..=5 => Kind::On(Timing::Curve(ResetRule::Iec)),
         6..=12 => Kind::On(Timing::Curve(ResetRule::Ansi)),

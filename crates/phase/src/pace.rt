@@ -11,6 +11,7 @@ pub struct Pace {
     pub loss: u64,
 }
 
+#[tactic(auto, unfolding(crate::specs::device::Pace::pace_of))]
 pub fn pace_of(settings: Settings, sample: u32) -> Pace
     ensures { result ≡ pace_of settings sample }
 {

@@ -12,6 +12,7 @@ use crate::settings::{Settings, settings_first_failed, trip_level};
 use crate::state::{PhaseState, is_valid};
 use checks::first_failed;
 
+// The refusal is a number beside the state, and no `Err`: a refused tick hands back the state that it was given.
 #[derive(Clone, Copy)]
 pub struct Ticked {
     pub refusal: u32,
@@ -27,7 +28,7 @@ fn is_due(timing: Timing, settings: Settings, after: PhaseState) -> bool
     match timing {
         Timing::Definite => settings.definite_delay <= after.run,
         Timing::Curve(_) => {
-            (trip_level(settings) <= after.sum) & (settings.minimum_delay <= after.run)
+            trip_level(settings) <= after.sum && settings.minimum_delay <= after.run
         }
     }
 }
@@ -36,10 +37,7 @@ fn is_due(timing: Timing, settings: Settings, after: PhaseState) -> bool
 fn start_by(kind: Kind, started: bool) -> bool
     ensures { result ≡ start_by kind started }
 {
-    match kind {
-        Kind::Off => false,
-        Kind::On(_) => started,
-    }
+    matches!(kind, Kind::On(_)) && started
 }
 
 // The trip output, with the state after the tick.
@@ -49,8 +47,7 @@ fn trip_by(kind: Kind, started: bool, settings: Settings, after: PhaseState) -> 
     match kind {
         Kind::Off => false,
         Kind::On(timing) => {
-            let allowed = started & (settings.start_only == 0);
-            allowed & is_due(timing, settings, after)
+            started && settings.start_only == 0 && is_due(timing, settings, after)
         }
     }
 }

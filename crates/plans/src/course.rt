@@ -63,12 +63,13 @@ fn kept(reset: u32, drop: u32, left: u64) -> u64
     if reset <= drop { 0 } else { left }
 }
 
+// In this order `min` and `is_due` are one comparison of the machine.
 fn after_started(plan: Plan, gain: u64, state: PhaseState) -> PhaseState
     requires { (state.sum ≤ 1500000000000) × (gain ≤ 1000000000000) × (state.run ≤ run_limit) }
     ensures { result ≡ after_started_by plan gain state }
 {
     PhaseState {
-        sum: (state.sum + gain).min(plan.level),
+        sum: plan.level.min(state.sum + gain),
         run: count_to(PhaseState::RUN_LIMIT, state.run),
         drop: 0,
         started: true,

@@ -1,5 +1,3 @@
 pub mod Tables
 pub mod PowerRule
 pub mod PowerTable
-pub mod Arms
-pub mod PowerRows

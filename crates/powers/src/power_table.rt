@@ -3,8 +3,9 @@ ghost use Rattle.std.specs.Prelude.{cond, ◌≡◌};
 ghost use Rattle.checks.specs.Range.{in_range};
 ghost use Rattle.powers.specs.Power.{X};
 
-// X(101), X(102) .. X(2000), as docs/power_table.py prints them.
-const X_TABLE: [u64; 1900] = [
+// X(101), X(102) .. X(2000), as docs/power_table.py prints them. A static lies in read-only memory; a constant array would be built
+// on the stack at each reading.
+static X_TABLE: [u64; 1900] = [
     5024458557, 2524417523, 1691043557, 1274336650, 1024296798, 857590658, 738503938, 649179489,
     579696670, 524103094, 478610874, 440694754, 408606475, 381097281, 357251415, 336382058,
     317963996, 301588725, 286933745, 273741052, 261801785, 250945059, 241029706, 231938085,
@@ -219,17 +220,12 @@ const X_TABLE: [u64; 1900] = [
     16217757, 16214954, 16212154, 16209357, 16206561, 16203768, 16200978, 16198189, 16195403,
 ];
 
-// X(m) as the table has it; 0 at a ratio that it has no entry for. Each reading builds the whole array on the stack, so the curves
-// read `x_of`, which gives the same.
+// X(m) as the table has it; 0 at a ratio that it has no entry for.
 pub fn x_in_table(ratio: u32) -> u64
     ensures { result ≡ cond (in_range 101 2000 ratio) (X ratio) 0 }
 {
     match ratio {
-        0..=100 => 0,
-        101..=2000 => {
-            let i = (ratio - 101) as usize;
-            X_TABLE[i]
-        }
+        101..=2000 => X_TABLE[(ratio - 101) as usize],
         _ => 0,
     }
 }

@@ -7,6 +7,7 @@ use Prim.Native.Nat.{ℕ, suc, ◌+◌, ◌-◌, ◌^◌, ◌≤◌, ◌<◌}
 use native.Mathlib.Omega.{arith}
 use lib.ListN.{length, take, drop, replicate, length-take}
 use lib.Seq.{sets-eq, drop_at, take-append_seam}
+use Rattle.std.specs.Prelude.{Ok}
 use Rattle.rows.specs.Row.{last_row, largest_current}
 use Rattle.text.specs.Number.{decimal_in}
 use Rattle.text.specs.Line.{right_shape, numbers_of, fits_in, spelled}
@@ -16,7 +17,6 @@ use Rattle.faults.proofs.RightLaws.{right_faultless, faultless_shape}
 use Rattle.text.proofs.ShapeLaws.{shape_most, fits_decimal}
 use Rattle.text.proofs.DecimalsLaws.{line_shaped, line_numbers, line_most}
 use Rattle.records.specs.declared.record_row.RecordRow.{RecordRow}
-use Rattle.records.specs.declared.reader.RecordRead.TheVariants.{Accepted}
 use Rattle.records.specs.RecordRow.{row_fits, timestamp, field_numbers, record_text, longest_record}
 use Rattle.records.specs.Writer.{write_refusal, free_from, written_at, WriteAnswer, write_answer}
 use Rattle.records.specs.Reader.{record_widths, longest_read, status_refusal, record_refusal, record_answer}
@@ -52,7 +52,7 @@ module _ (x : RecordRow) (fit : row_fits x ≡ true) where
   unfolding record_text
   numbers_back = line_numbers record_widths (field_numbers x) (omega arith) all_fit
 
-  pub text_back : x.outputs < 256 → record_answer (record_text x) (x.number - 1) ≡ Accepted x
+  pub text_back : x.outputs < 256 → record_answer (record_text x) (x.number - 1) ≡ Ok x
   unfolding record_answer
   text_back byte =
       let next : x.number ≡ x.number - 1 + 1 = omega (arith, (fits x fit).some) in
@@ -88,7 +88,7 @@ stored out at xs h =
 
 -- READING THE FIELDS BACK: the reader, on exactly the bytes of an accepted write and after the number before, gives the row
 pub reading_back : (out : List ℕ) (at : ℕ) (x : RecordRow) → x.outputs < 256 → (write_answer out at x).answer.refusal ≡ 0
-    → record_answer (bytes_written at (write_answer out at x)) (x.number - 1) ≡ Accepted x
+    → record_answer (bytes_written at (write_answer out at x)) (x.number - 1) ≡ Ok x
 reading_back out at x byte e =
     let none : write_refusal x (free_from (length out) at) ≡ 0 = sym (write_number out at x) ∙ e in
     let room = accepted_place x (free_from (length out) at) (length out) at refl none in

@@ -2,14 +2,15 @@
 -- reading them.
 -- Assumes nothing.
 use mathlib.Core.Path.{◌≡◌, refl}
-use mathlib.Core.Bool.{true, false}
+use mathlib.Core.Bool.{true}
 use mathlib.Core.List.{List, ◌∷◌}
 use Prim.Native.Nat.{ℕ, zero, suc, ◌+◌, ◌-◌, ◌*◌, ◌/◌, ◌%◌, ◌^◌, ◌≤◌, ◌<◌}
-use native.Mathlib.Nat.{pow-suc, pow-le-pow_right}
+use native.Mathlib.Nat.{pow-suc}
 use native.Mathlib.Omega.{arith}
 use lib.ListN.{length, get_or, drop, replicate}
 use lib.Seq.{drop-cons, drop-length}
 use borrow.Author.Tests.{le-leb}
+use Rattle.std.specs.Prelude.{None}
 use Rattle.checks.specs.Range.{all_bits}
 use Rattle.checks.proofs.Cases.{not_true}
 use Rattle.checks.proofs.Tests.{bit_at}
@@ -72,14 +73,5 @@ module _ (fields : List ℕ) (k j byte : ℕ) (turn : StatusTurn fields k byte) 
         small = rw (n, pow-suc 2 (length fields - suc j)) (omega (arith, t.small));
       }
 
-  pub turn_wrong : 1 < get_or fields j 0 → record { right = false; byte = 0 } ≡ status_answer fields
+  pub turn_wrong : 1 < get_or fields j 0 → None ≡ status_answer fields
   turn_wrong h = rw (not_true (all_bits fields) (λ e. omega (arith, h, bit_at fields j e (omega (arith, turn.within, next)))))
-
--- at most eight fields, of which one is still to be read
-pub turn_small : (fields : List ℕ) (k byte : ℕ) → StatusTurn fields k byte → 0 < k → length fields ≤ 8 → byte < 128
-turn_small fields k byte turn more few =
-    let left : length fields - k ≤ 7 = omega arith in
-    omega (arith, turn.small, pow-le-pow_right {n = 2} (omega arith) left)
-
-pub turn_last : (fields : List ℕ) (byte : ℕ) → StatusTurn fields 0 byte → record { right = true; byte = byte } ≡ status_answer fields
-turn_last fields byte turn = rw (turn.bits, turn.same)

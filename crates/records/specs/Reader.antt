@@ -1,12 +1,10 @@
 -- The reader of the record's rows (02, E1): "01's reader keeps its one block field; a second takes the eight".
-use Rattle.std.specs.Prelude.{cond, List, [], ◌∷◌, ℕ, eqb, get_or, take, drop}
+use Rattle.std.specs.Prelude.{cond, List, [], ◌∷◌, Result, ℕ, get_or, take, drop}
 use Rattle.rows.specs.declared.refusal.Refusal.{Refusal}
-use Rattle.rows.specs.Refusal.{accepted}
+use Rattle.rows.specs.Refusal.{answer_by, refused_with}
 use Rattle.rows.specs.Numbered.{numbered_refusal}
 use Rattle.text.specs.Line.{numbers_of}
 use Rattle.records.specs.declared.record_row.RecordRow.{RecordRow}
-use Rattle.records.specs.declared.reader.RecordRead.{RecordRead}
-use Rattle.records.specs.declared.reader.RecordRead.TheVariants.{Accepted, Refused}
 use Rattle.records.specs.Refusals.{wrong_status}
 use Rattle.checks.specs.Range.{all_bits}
 use Rattle.records.specs.Status.{byte_of}
@@ -42,11 +40,9 @@ abbrev pub record_refusal : List ℕ → ℕ → Refusal
 record_refusal s last = numbered_refusal record_widths status_refusal s last
 
 -- what the reader answers
-unfoldable pub record_answer : List ℕ → ℕ → RecordRead
-record_answer s last =
-    cond (eqb (record_refusal s last).number 0) (Accepted (record_in (numbers_of s))) (Refused (record_refusal s last))
+unfoldable pub record_answer : List ℕ → ℕ → Result RecordRow Refusal
+record_answer s last = answer_by (record_refusal s last) (record_in (numbers_of s))
 
 -- the paper's numbers for each case of the answer
-abbrev pub record_numbers : RecordRead → Refusal
-record_numbers (Accepted x) = accepted
-record_numbers (Refused x) = x
+abbrev pub record_numbers : Result RecordRow Refusal → Refusal
+record_numbers x = refused_with x

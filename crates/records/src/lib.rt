@@ -7,6 +7,6 @@ pub mod refusals;
 mod status;
 mod writer;
 
-pub use reader::{RecordRead, read_record_row};
+pub use reader::read_record_row;
 pub use record_row::RecordRow;
 pub use writer::{RowWritten, write_row};

@@ -2,7 +2,7 @@
 ghost use Rattle.std.specs.Prelude.{◌≡◌, true};
 ghost use Rattle.records.specs.RecordRow.{row_fits, field_numbers};
 
-#[derive(Clone, Copy)]
+#[derive(Clone, Copy, PartialEq, Eq)]
 pub struct RecordRow {
     pub number: u32,
     pub l1: u32,
@@ -22,19 +22,10 @@ pub const LARGEST_CURRENT: u32 = 9_999_999;
 pub(crate) fn row_fits(x: RecordRow) -> bool
     ensures { result ≡ row_fits x }
 {
-    if x.number < 1 {
-        return false;
-    }
-    if LAST_ROW < x.number {
-        return false;
-    }
-    if LARGEST_CURRENT < x.l1 {
-        return false;
-    }
-    if LARGEST_CURRENT < x.l2 {
-        return false;
-    }
-    x.l3 <= LARGEST_CURRENT
+    (1..=LAST_ROW).contains(&x.number)
+        && x.l1 <= LARGEST_CURRENT
+        && x.l2 <= LARGEST_CURRENT
+        && x.l3 <= LARGEST_CURRENT
 }
 
 // The numbers of its fields.

@@ -2,30 +2,18 @@
 ghost use Rattle.std.specs.Prelude.{◌≡◌, ◌≤◌, length};
 ghost use Rattle.records.specs.device.StatusRead.{status_answer};
 
-// Whether each field is 0 or 1, and then the byte whose bits they are.
-#[derive(Clone, Copy)]
-pub struct Status {
-    pub right: bool,
-    pub byte: u8,
-}
-
-// Reads the bits, the highest first.
-pub(crate) fn read_status(fields: &[u64]) -> Status
+// The byte whose bits they are, where each field is 0 or 1: the highest first.
+pub(crate) fn read_status(fields: &[u64]) -> Option<u8>
     requires { length fields.now ≤ 8 }
     ensures { result ≡ status_answer fields.now }
 {
-    let mut k = fields.len();
     let mut byte = 0u8;
-    while 0 < k {
-        k -= 1;
+    for k in (0..fields.len()).rev() {
         let bit = fields[k];
         if 1 < bit {
-            return Status {
-                right: false,
-                byte: 0,
-            };
+            return None;
         }
         byte = 2 * byte + bit as u8;
     }
-    Status { right: true, byte }
+    Some(byte)
 }

@@ -8,7 +8,7 @@ use crate::record_row::{RecordRow, field_numbers, row_fits};
 use crate::refusals::{DOES_NOT_FIT, NO_ROOM};
 use text::decimals::{line_length, put_line};
 
-// 0 or the refusal's number, and the place where the next row goes.
+// 0 or the refusal's number, and the place where the next row goes: a refused write too hands it back (`write_row` in docs/SHEET.md).
 #[derive(Clone, Copy)]
 pub struct RowWritten {
     pub refusal: u32,
@@ -19,7 +19,7 @@ pub struct RowWritten {
 fn free_from(long: usize, at: usize) -> usize
     ensures { result ≡ free_from long at }
 {
-    if long < at { 0 } else { long - at }
+    long.saturating_sub(at)
 }
 
 // How many bytes the row needs.
@@ -41,6 +41,7 @@ fn put_row(free: &mut [u8], x: RecordRow) -> usize
 }
 
 // What the row is refused with where so many bytes are free.
+#[tactic(auto, unfolding(crate::specs::Writer::write_refusal))]
 fn write_refusal(x: RecordRow, free: usize) -> u32
     ensures { result ≡ write_refusal x free }
 {

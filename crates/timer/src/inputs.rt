@@ -21,14 +21,15 @@ pub struct Inputs {
     pub reset: bool,
 }
 
-pub(crate) fn input_of(inputs: Inputs) -> bool
-    ensures { result ≡ input_of inputs }
-{
-    let combination = inputs.combination;
-    match combination {
-        Combination::Plain => inputs.start,
-        Combination::Or => inputs.start | inputs.or_input,
-        Combination::And => inputs.start & inputs.and_input,
-        Combination::OrAnd => (inputs.start | inputs.or_input) & inputs.and_input,
+impl Inputs {
+    pub(crate) fn combined(self) -> bool
+        ensures { result ≡ input_of self }
+    {
+        match self.combination {
+            Combination::Plain => self.start,
+            Combination::Or => self.start || self.or_input,
+            Combination::And => self.start && self.and_input,
+            Combination::OrAnd => (self.start || self.or_input) && self.and_input,
+        }
     }
 }

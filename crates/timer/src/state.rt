@@ -1,6 +1,6 @@
 // What a timer keeps from tick to tick, and its limits.
 ghost use Rattle.std.specs.Prelude.{◌≡◌};
-ghost use Rattle.timer.specs.State.{fresh_timer, with_count, with_previous, with_latch};
+ghost use Rattle.timer.specs.State.{fresh_timer};
 
 // Only Hold changes the previous input, only the flip-flop the latch.
 #[derive(Clone, Copy)]
@@ -24,35 +24,5 @@ impl TimerState {
             previous: false,
             latch: false,
         }
-    }
-}
-
-pub(crate) fn with_count(count: u32, state: TimerState) -> TimerState
-    ensures { result ≡ with_count count state }
-{
-    TimerState {
-        count,
-        previous: state.previous,
-        latch: state.latch,
-    }
-}
-
-pub(crate) fn with_previous(previous: bool, state: TimerState) -> TimerState
-    ensures { result ≡ with_previous previous state }
-{
-    TimerState {
-        count: state.count,
-        previous,
-        latch: state.latch,
-    }
-}
-
-pub(crate) fn with_latch(latch: bool, state: TimerState) -> TimerState
-    ensures { result ≡ with_latch latch state }
-{
-    TimerState {
-        count: state.count,
-        previous: state.previous,
-        latch,
     }
 }

@@ -3,8 +3,7 @@ ghost use Rattle.std.specs.Prelude.{◌≡◌};
 ghost use Rattle.timer.specs.Timer.{set_delay_answer, hold_answer, reset_delay_answer, flip_flop_answer};
 
 use crate::answer::{Timed, answered};
-use crate::inputs::{Inputs, input_of};
-use crate::refusals::refusal_of;
+use crate::inputs::Inputs;
 use crate::rules::{flip_flop_rule, hold_rule, reset_delay_rule, set_delay_rule};
 use crate::state::TimerState;
 
@@ -12,24 +11,24 @@ use crate::state::TimerState;
 pub fn set_delay(state: TimerState, d: u32, inputs: Inputs) -> Timed
     ensures { result ≡ set_delay_answer state d inputs }
 {
-    let ruled = set_delay_rule(d, input_of(inputs), state);
-    answered(refusal_of(state, d), inputs.reset, state, ruled)
+    let ruled = set_delay_rule(d, inputs.combined(), state);
+    answered(inputs.reset, state, d, ruled)
 }
 
 // On for d ticks from a rise of the input on, whatever the input does meanwhile.
 pub fn hold(state: TimerState, d: u32, inputs: Inputs) -> Timed
     ensures { result ≡ hold_answer state d inputs }
 {
-    let ruled = hold_rule(d, input_of(inputs), state);
-    answered(refusal_of(state, d), inputs.reset, state, ruled)
+    let ruled = hold_rule(d, inputs.combined(), state);
+    answered(inputs.reset, state, d, ruled)
 }
 
 // On while the input is on, and for d ticks after.
 pub fn reset_delay(state: TimerState, d: u32, inputs: Inputs) -> Timed
     ensures { result ≡ reset_delay_answer state d inputs }
 {
-    let ruled = reset_delay_rule(d, input_of(inputs), state);
-    answered(refusal_of(state, d), inputs.reset, state, ruled)
+    let ruled = reset_delay_rule(d, inputs.combined(), state);
+    answered(inputs.reset, state, d, ruled)
 }
 
 // On from the tick at which the set input has been on for more than d ticks in a row or the trip input is on, until a reset.
@@ -37,5 +36,5 @@ pub fn flip_flop(state: TimerState, d: u32, set: bool, trip: bool, reset: bool) 
     ensures { result ≡ flip_flop_answer state d set trip reset }
 {
     let ruled = flip_flop_rule(d, set, trip, state);
-    answered(refusal_of(state, d), reset, state, ruled)
+    answered(reset, state, d, ruled)
 }

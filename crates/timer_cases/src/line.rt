@@ -1,33 +1,30 @@
-// How the parts of a line are written.
+// How the parts of a line are written. What standard output does not take is let go: who compares the lines misses them.
+use std::fmt;
 use timer::{Combination, TimerState};
 
-// What standard output does not take is let go: who compares the lines misses them.
-pub(crate) fn say(rt: HostRuntime, text: &[u8]) {
-    let _ = rt.write_all(text);
-}
-
-pub(crate) fn say_number(rt: HostRuntime, n: u32) {
-    let _ = rt.print(n);
-}
-
-pub(crate) fn say_bit(rt: HostRuntime, on: bool) {
-    say_number(rt, on as u32);
-}
+// The timer's types, as a line shows them.
+#[derive(Clone, Copy)]
+pub struct Shown<T>(pub T);
 
 // Count, previous input and latch.
-pub(crate) fn say_state(rt: HostRuntime, state: TimerState) {
-    say_number(rt, state.count);
-    say(rt, b",");
-    say_bit(rt, state.previous);
-    say(rt, b",");
-    say_bit(rt, state.latch);
+impl fmt::Display for Shown<TimerState> {
+    fn fmt<W: fmt::Write>(&self, f: &mut fmt::Formatter<W>) -> fmt::Result {
+        let state = self.0;
+        write!(
+            f,
+            "{},{},{}",
+            state.count, state.previous as u8, state.latch as u8
+        )
+    }
 }
 
-pub(crate) fn say_combination(rt: HostRuntime, combination: Combination) {
-    match combination {
-        Combination::Plain => say(rt, b", plain"),
-        Combination::Or => say(rt, b", or"),
-        Combination::And => say(rt, b", and"),
-        Combination::OrAnd => say(rt, b", or-and"),
+impl fmt::Display for Shown<Combination> {
+    fn fmt<W: fmt::Write>(&self, f: &mut fmt::Formatter<W>) -> fmt::Result {
+        f.write_str(match self.0 {
+            Combination::Plain => "plain",
+            Combination::Or => "or",
+            Combination::And => "and",
+            Combination::OrAnd => "or-and",
+        })
     }
 }

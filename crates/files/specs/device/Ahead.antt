@@ -1,15 +1,15 @@
 -- A device of the code: rows that stand whole in a portion, run one after the other where they stand.
 use Rattle.std.specs.Prelude.{◌≡◌, Bool, true, false, ◌&&◌, List, ◌++◌, ℕ, ◌+◌, ◌*◌, ◌≤◌, eqb, length, drop}
-use Rattle.std.proofs.lemmas.List.Edits.{sets}
 use Rattle.checks.specs.Checks.{first_failed}
 use Rattle.text.specs.Cutter.{empty_cutter}
+use Rattle.text.specs.declared.page.Page.{Page}
+use Rattle.text.specs.device.Page.{Put}
 use Rattle.phase.specs.declared.settings.Settings.{Settings}
 use Rattle.phase.specs.Settings.{settings_refusal}
-use Rattle.plans.specs.declared.plan.Plan.{Plan}
 use Rattle.relay.specs.device.Step.{StepReady, relay_of, courses_from, relay_step}
 use Rattle.relay.specs.Tick.{outputs_of, relay_checks}
 use Rattle.rows.specs.declared.row.Row.{Row}
-use Rattle.steps.specs.declared.configuration.Configuration.{Configuration}
+use Rattle.steps.specs.Configuration.{Configuration}
 use Rattle.steps.specs.declared.output.Form.{Form}
 use Rattle.steps.specs.declared.output.Form.TheVariants.{Changes, Record, Explain, ExplainAll}
 use Rattle.steps.specs.declared.progress.Stage.{Stage}
@@ -17,7 +17,6 @@ use Rattle.steps.specs.declared.progress.Stage.TheVariants.{Opening, Running, St
 use Rattle.steps.specs.declared.progress.Progress.{Progress}
 use Rattle.steps.specs.Output.{change_of, spread}
 use Rattle.files.specs.declared.ahead.Way.{Way}
-use Rattle.files.specs.declared.ahead.RowsDone.{RowsDone}
 use Rattle.files.specs.declared.ahead.Ahead.{Ahead}
 use Rattle.files.specs.declared.replay.Replay.{Replay}
 use Rattle.files.specs.Replay.{fed, writes}
@@ -55,11 +54,11 @@ progress_on c settings way = record {
 }
 
 abbrev pub byte_at : Settings → Way → Row → ℕ
-byte_at settings way x = outputs_of settings (relay_of way.courses) x.l1 x.l2 x.l3 x.block
+byte_at settings way x = outputs_of settings (relay_of way.courses) x.sample.l1 x.sample.l2 x.sample.l3 x.sample.block
 
 abbrev pub way_after : Settings → Way → Row → Way
 way_after settings way x = record {
-  courses = (relay_step settings (relay_of way.courses) x.l1 x.l2 x.l3 x.block).courses;
+  courses = (relay_step settings (relay_of way.courses) x.sample.l1 x.sample.l2 x.sample.l3 x.sample.block).courses;
   done = way.done + 1;
   outputs = byte_at settings way x;
 }
@@ -68,9 +67,9 @@ abbrev pub change_at : Settings → Way → Row → List ℕ
 change_at settings way x = change_of (way.done + 1) (byte_at settings way x) way.outputs
 
 -- what a row goes by
-pub record WayReady (plan : Plan) (way : Way) : Type 0 where
-  pub step : StepReady plan way.courses
-  pub accepted : settings_refusal plan.settings ≡ 0
+pub record WayReady (settings : Settings) (way : Way) : Type 0 where
+  pub step : StepReady settings way.courses
+  pub accepted : settings_refusal settings ≡ 0
 
 -- ---- what it comes to
 
@@ -87,14 +86,12 @@ pub record Onward (portion : List ℕ) (i : ℕ) (s : Replay) (j : ℕ) (s' : Re
   pub short : length wrote + spread s.form * i ≤ spread s.form * j
 
 -- rows were run, whatever the configuration: it has no part in them
-pub record RowsRan (settings : Settings) (begun : Way) (portion : List ℕ) (from : ℕ) (before after : List ℕ) (at : ℕ) (r : RowsDone) : Type 0 where
+pub record RowsRan (settings : Settings) (begun : Way) (portion : List ℕ) (from : ℕ) (before after : Page) (r : Ahead Way) : Type 0 where
   pub wrote : List ℕ
-  pub on : (c : Configuration) → Onward portion from (still Changes (progress_on c settings begun)) r.next (still Changes (progress_on c settings r.way)) wrote
-  pub output : after ≡ sets before at wrote
-  pub place : r.written ≡ at + length wrote
+  pub on : (c : Configuration) → Onward portion from (still Changes (progress_on c settings begun)) r.next (still Changes (progress_on c settings r.reached)) wrote
+  pub put : Put (length wrote) before after wrote
 
-pub record RanAhead (form : Form) (p : Progress) (portion : List ℕ) (from : ℕ) (before after : List ℕ) (at : ℕ) (r : Ahead) : Type 0 where
+pub record RanAhead (form : Form) (p : Progress) (portion : List ℕ) (from : ℕ) (before after : Page) (r : Ahead Progress) : Type 0 where
   pub wrote : List ℕ
-  pub on : Onward portion from (still form p) r.next (still form r.progress) wrote
-  pub output : after ≡ sets before at wrote
-  pub place : r.written ≡ at + length wrote
+  pub on : Onward portion from (still form p) r.next (still form r.reached) wrote
+  pub put : Put (length wrote) before after wrote

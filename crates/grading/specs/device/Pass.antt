@@ -1,5 +1,5 @@
 -- Devices of the code: one ratio of the pass over all of them.
-use Rattle.std.specs.Prelude.{ℕ, ◌+◌, Bool, true, false, cond, ◌||◌, List, eqb, ℤ, set}
+use Rattle.std.specs.Prelude.{ℕ, ◌+◌, Option, Some, None, Bool, true, false, cond, List, ℤ, set}
 use Rattle.std.specs.Int.Signed.{lt_z}
 use Rattle.grading.specs.declared.margins.Smallest.{Smallest}
 
@@ -12,7 +12,7 @@ abbrev pub counted : List ℕ → ℕ → ℕ → Bool → Counted
 counted list count ratio true = record { count = count + 1; list = set list count ratio }
 counted list count ratio false = record { count = count; list = list }
 
--- the smaller difference, the earlier where they are one; a ratio of 0 is none yet
-abbrev pub smaller_of : Smallest → ℤ → ℕ → Smallest
-smaller_of before difference ratio =
-    cond (eqb before.ratio 0 || lt_z difference before.difference) (record { difference = difference; ratio = ratio }) before
+-- the smaller difference, the earlier where they are one
+abbrev pub smaller_of : Option Smallest → ℤ → ℕ → Smallest
+smaller_of None difference ratio = record { difference = difference; ratio = ratio }
+smaller_of (Some before) difference ratio = cond (lt_z difference before.difference) (record { difference = difference; ratio = ratio }) before

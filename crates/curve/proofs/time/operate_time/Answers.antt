@@ -1,15 +1,14 @@
--- `curve::time::operate_time` meets its contract: by the ranges of the ratio.
+-- `curve::time::operate_time` meets its contract: the constants of a row are moderate.
 -- Assumes nothing.
 use native.Mathlib.Omega.{arith}
-use mathlib.Core.Path.{sym}
-use Rattle.curve.proofs.TimeLaws.{no_operate_time_to_100, no_operate_time_above_2000}
+use Rattle.curve.proofs.TimeLaws.{found_row, inverse_at_most}
 use Rattle.curve.proofs.time.operate_time.Goals as goal
 
-pub returns-in-100 : goal.returns-in-100
-returns-in-100 c = sym (no_operate_time_to_100 _ _ (omega arith))
+pub inverse_part-requires-clause-moderate : goal.inverse_part-requires-clause-moderate
+inverse_part-requires-clause-moderate c = (found_row c.args.operation c.in-Some.row c.in-Some.ensures).moderate.k
 
-pub returns-in-0-to-99 : goal.returns-in-0-to-99
-returns-in-0-to-99 c = sym (no_operate_time_to_100 _ _ (omega arith))
-
-pub returns-in_default : goal.returns-in_default
-returns-in_default c = sym (no_operate_time_above_2000 _ _ c.in_default.if-ratio-lt2001-own.false)
+pub overflow_add-result : goal.overflow_add-result
+overflow_add-result c =
+    let row = (found_row c.args.operation c.in-Some.row c.in-Some.ensures).moderate in
+    let part = inverse_at_most c.in-Some.row.a c.in-Some.row.k c.args.ratio row.k in
+    omega (arith, row.c, part, c.inverse_part.ensures)

@@ -1,15 +1,8 @@
--- `curve::time::reset_time` meets its contract: by the ranges of the ratio.
+-- `curve::time::reset_time` meets its contract: the constants of a row are moderate.
 -- Assumes nothing.
 use native.Mathlib.Omega.{arith}
-use mathlib.Core.Path.{sym}
-use Rattle.curve.proofs.TimeLaws.{no_reset_time_from_100}
+use Rattle.curve.proofs.TimeLaws.{found_kr, kr_at_most}
 use Rattle.curve.proofs.time.reset_time.Goals as goal
 
-pub returns-in-100 : goal.returns-in-100
-returns-in-100 c = sym (no_reset_time_from_100 _ _ (omega arith))
-
-pub returns-in-101-to-2000 : goal.returns-in-101-to-2000
-returns-in-101-to-2000 c = sym (no_reset_time_from_100 _ _ (omega arith))
-
-pub returns-in_default : goal.returns-in_default
-returns-in_default c = sym (no_reset_time_from_100 _ _ (omega arith))
+pub reset_part-requires-clause-moderate : goal.reset_part-requires-clause-moderate
+reset_part-requires-clause-moderate c = kr_at_most c.args.operation c.in-Some.kr (grind (arith, found_kr))

@@ -6,7 +6,7 @@ use Prim.Native.Nat.{◌-◌}
 use Rattle.files.proofs.ahead.run_rows.Given as goal
 
 abbrev pub invariant-loop-next : goal.invariant-loop-next
-invariant-loop-next l = RowsRan l.plan.settings l.initial.way l.portion l.from l.initial.out l.out l.at (record { way = l.way; next = l.next; written = l.written }) × WayReady l.plan l.way
+invariant-loop-next l = RowsRan l.planned.checked.settings l.begun l.portion l.from l.initial.page l.page (record { reached = l.way; next = l.next }) × WayReady l.planned.checked.settings l.way
 
 abbrev pub decreases-loop-next : goal.decreases-loop-next
 decreases-loop-next l = length l.portion - l.next

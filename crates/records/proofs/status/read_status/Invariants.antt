@@ -5,6 +5,3 @@ use Rattle.records.proofs.status.read_status.Given as goal
 
 abbrev pub invariant-loop-k : goal.invariant-loop-k
 invariant-loop-k l = StatusTurn l.fields l.k l.byte
-
-abbrev pub decreases-loop-k : goal.decreases-loop-k
-decreases-loop-k l = l.k
