@@ -1,7 +1,7 @@
 // The replay of standard input, portion by portion.
 ghost use Rattle.std.specs.Prelude.{◌≡◌, ◌≤◌, length, IfSome};
 ghost use Rattle.std.proofs.lemmas.List.Edits.{sets};
-ghost use Rattle.files.specs.Replay.{longest_line, fresh_replay, portion_room, fed_by, writes, Reached};
+ghost use Rattle.files.specs.Replay.{longest_line, fresh_replay, portion_room, fed, fed_by, writes, Reached};
 ghost use Rattle.files.specs.device.Calls.{Sound};
 
 use files::{Fed, Replay};
@@ -24,11 +24,13 @@ fn take_portion(state: Replay, portion: &[u8], out: &mut [u8]) -> Fed
 // Takes a portion and writes what it gives. None where a write failed, which is told.
 fn one_turn(rt: HostRuntime, state: Replay, portion: &[u8], out: &mut [u8]) -> Option<Replay>
     requires { (Sound state) × (portion_room state.form longest_line (length portion.now) ≤ length out.old) }
-    ensures { IfSome result (λ after. after ≡ (fed_by state portion.now).state) }
+    ensures { IfSome result (λ after. after ≡ fed state portion.now) }
 {
     let fed = take_portion(state, portion, out);
-    let count = write_out(rt, &out[..fed.written]);
-    (count == fed.written).then_some(fed.state)
+    if write_out(rt, &out[..fed.written]) != fed.written {
+        return None;
+    }
+    Some(fed.state)
 }
 
 // To the end of the input, to a refusal, or to the row that was asked for: what follows would write nothing. None where a read or a
