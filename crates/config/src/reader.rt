@@ -6,7 +6,7 @@ ghost use Rattle.config.specs.Reader.{line_limit, taken, take_answer, last_readi
 
 use crate::line::{LONGEST_LINE, is_right_at, last_sample};
 use crate::refusals::MULTIPLIER;
-use crate::shape::{LAST_LINE, number_of};
+use crate::shape::{LAST_LINE, shape_at};
 use checks::in_range;
 use text::cutter::Cutter;
 use text::lines::{Closer, Cut};
@@ -44,7 +44,7 @@ fn number_due(line: u32) -> u32
     ensures { result ≡ number_due line }
 {
     if in_range(1, LAST_LINE, line) {
-        number_of((line - 1) as usize)
+        shape_at((line - 1) as usize).number
     } else {
         MULTIPLIER
     }

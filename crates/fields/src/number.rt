@@ -20,19 +20,10 @@ pub(crate) fn is_whole(s: &[u8], least: usize, most: usize, low: u64, high: u64)
     ensures { result ≡ is_whole least most low high s.now }
 {
     let d = read_digits(s, 0, most);
-    if d.count != s.len() {
-        return false;
-    }
-    if d.count < least {
-        return false;
-    }
-    if d.value < low {
-        return false;
-    }
-    d.value <= high
+    d.count == s.len() && least <= d.count && (low..=high).contains(&d.value)
 }
 
-// The place after a whole number and the mark that closes it; 0 where there is none.
+// What stands after a whole number and the mark that closes it.
 pub(crate) fn after_whole(
     s: &[u8],
     mark: u8,
@@ -40,29 +31,23 @@ pub(crate) fn after_whole(
     most: usize,
     low: u64,
     high: u64,
-) -> usize
+) -> Option<&[u8]>
     requires { most ≤ digit_limit }
     ensures { WholeLeads mark least most low high s.now result }
 {
     let n = until(s, mark, mark);
-    if n == s.len() {
-        return 0;
+    if n < s.len() && is_whole(&s[..n], least, most, low, high) {
+        Some(&s[n + 1..])
+    } else {
+        None
     }
-    if is_whole(&s[..n], least, most, low, high) {
-        return n + 1;
-    }
-    0
 }
 
 // So many channels, and the letter of their sort.
 pub(crate) fn is_channels(s: &[u8], value: u64, letter: u8) -> bool
     ensures { result ≡ is_channels value letter s.now }
 {
-    let n = after_whole(s, letter, 1, 6, value, value);
-    if n == 0 {
-        return false;
-    }
-    n == s.len()
+    after_whole(s, letter, 1, 6, value, value).is_some_and(|rest| rest.is_empty())
 }
 
 // The least or the greatest sample.
@@ -76,38 +61,18 @@ pub(crate) fn is_extreme(s: &[u8]) -> bool
 fn some_digits(s: &[u8]) -> bool
     ensures { result ≡ some_digits s.now }
 {
-    if s.len() == 0 {
-        return false;
-    }
-    all_within(s, b'0', b'9')
-}
-
-fn digit_of(b: u8) -> u64
-    ensures { (result ≡ b - 48) × (result ≤ 255) }
-{
-    if b < b'0' {
-        return 0;
-    }
-    (b - b'0') as u64
-}
-
-fn capped(v: u64) -> u64
-    ensures { result ≡ min v large_value }
-{
-    if v < LARGE { v } else { LARGE }
+    !s.is_empty() && all_within(s, b'0', b'9')
 }
 
 // The value of digits, as far as LARGE.
 fn value_to_large(s: &[u8]) -> u64
     ensures { result ≡ min (value_of s.now) large_value }
 {
-    let mut v: u64 = 0;
-    let mut i = 0;
-    while i < s.len() {
-        v = capped(v * 10 + digit_of(s[i]));
-        i += 1;
+    let mut value = 0;
+    for b in s {
+        value = (value * 10 + u64::from(b.saturating_sub(b'0'))).min(LARGE);
     }
-    v
+    value
 }
 
 // A decimal without its sign.
@@ -115,20 +80,13 @@ fn is_unsigned_decimal(s: &[u8]) -> bool
     ensures { result ≡ is_unsigned_decimal s.now }
 {
     let n = until(s, b'.', b'.');
-    if !some_digits(&s[..n]) {
-        return false;
-    }
-    if n == s.len() {
-        return true;
-    }
-    some_digits(&s[n + 1..])
+    some_digits(&s[..n]) && (n == s.len() || some_digits(&s[n + 1..]))
 }
 
 fn is_decimal(s: &[u8]) -> bool
     ensures { result ≡ is_decimal s.now }
 {
-    let n = mark_length(s, b'+', b'-');
-    is_unsigned_decimal(&s[n..])
+    is_unsigned_decimal(&s[mark_length(s, b'+', b'-')..])
 }
 
 // Whether a decimal without its sign has this value.
@@ -137,22 +95,13 @@ fn is_of_value(s: &[u8], v: u64) -> bool
     ensures { result ≡ is_of_value v s.now }
 {
     let n = until(s, b'.', b'.');
-    if value_to_large(&s[..n]) != v {
-        return false;
-    }
-    if n == s.len() {
-        return true;
-    }
-    value_to_large(&s[n + 1..]) == 0
+    value_to_large(&s[..n]) == v && (n == s.len() || value_to_large(&s[n + 1..]) == 0)
 }
 
 fn sign_fits(s: &[u8], v: u64) -> bool
     ensures { result ≡ sign_fits v s.now }
 {
-    if begins_with(s, b'-') {
-        return v == 0;
-    }
-    true
+    v == 0 || !begins_with(s, b'-')
 }
 
 // A decimal of this value.
@@ -166,19 +115,14 @@ pub(crate) fn is_decimal_of(s: &[u8], v: u64) -> bool
     if !sign_fits(s, v) {
         return false;
     }
-    if !is_decimal(s) {
-        return false;
-    }
-    let n = mark_length(s, b'+', b'-');
-    is_of_value(&s[n..], v)
+    is_decimal(s) && is_of_value(&s[mark_length(s, b'+', b'-')..], v)
 }
 
 // The digits of an exponent.
 fn is_exponent(s: &[u8]) -> bool
     ensures { result ≡ is_exponent s.now }
 {
-    let n = mark_length(s, b'+', b'-');
-    some_digits(&s[n..])
+    some_digits(&s[mark_length(s, b'+', b'-')..])
 }
 
 // A decimal, with or without an exponent.
@@ -189,11 +133,5 @@ pub(crate) fn is_number(s: &[u8]) -> bool
         return false;
     }
     let n = until(s, b'e', b'E');
-    if !is_decimal(&s[..n]) {
-        return false;
-    }
-    if n == s.len() {
-        return true;
-    }
-    is_exponent(&s[n + 1..])
+    is_decimal(&s[..n]) && (n == s.len() || is_exponent(&s[n + 1..]))
 }
