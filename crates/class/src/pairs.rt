@@ -1,113 +1,151 @@
 // More current is never slower: pairs of recordings of one phase, the second with at least the current of the first at every tick.
-use crate::line::{say, tick_or_none, verdict};
+use crate::line::{say, verdict};
 use crate::phases::settings_of;
 use phase::tick::tick;
 use phase::{PhaseState, Settings};
+use std::fmt;
+use std::fmt::{Display, Formatter};
 
-// How far both have come. A first trip of 0 is none.
+// The first tick with the trip on, where there was one.
+#[derive(Clone, Copy)]
+struct FirstTrip(Option<u32>);
+
+impl FirstTrip {
+    // The one found before, else this tick where its trip is on.
+    fn or(self, now: u32, trip: bool) -> FirstTrip {
+        FirstTrip(self.0.or(trip.then_some(now)))
+    }
+}
+
+impl Display for FirstTrip {
+    fn fmt<W: fmt::Write>(&self, f: &mut Formatter<W>) -> fmt::Result {
+        match self.0 {
+            Some(tick) => write!(f, "{tick}"),
+            None => write!(f, "none"),
+        }
+    }
+}
+
+// How far both have come.
 #[derive(Clone, Copy)]
 struct Pair {
     ticks: u32,
     first: PhaseState,
     second: PhaseState,
-    first_trip: u32,
-    second_trip: u32,
+    first_trip: FirstTrip,
+    second_trip: FirstTrip,
     never_behind: bool,
 }
 
-// The first tick with the trip on: the one found before, else this one where its trip is on.
-fn first_trip(found: u32, now: u32, trip: bool) -> u32 {
-    if trip & (found == 0) { now } else { found }
+// So many ticks of both, each with these samples.
+#[derive(Clone, Copy)]
+struct Stretch {
+    ticks: u32,
+    first: u32,
+    second: u32,
+}
+
+impl Stretch {
+    fn new(ticks: u32, first: u32, second: u32) -> Self {
+        Stretch {
+            ticks,
+            first,
+            second,
+        }
+    }
 }
 
 // A tick of both.
 fn step(settings: Settings, pair: Pair, first: u32, second: u32) -> Pair {
-    let first_state = pair.first;
-    let smaller = tick(settings, first_state, first);
-    let second_state = pair.second;
-    let larger = tick(settings, second_state, second);
+    let smaller = tick(settings, pair.first, first);
+    let larger = tick(settings, pair.second, second);
     let below = smaller.state;
     let above = larger.state;
     let accepted = (smaller.refusal == 0) & (larger.refusal == 0);
     let counts = (below.sum <= above.sum) & (below.run <= above.run);
     let trips = !smaller.trip | larger.trip;
-    let now = std::num::wrapping_add_u32(pair.ticks, 1);
+    let now = pair.ticks.wrapping_add(1);
     Pair {
         ticks: now,
         first: below,
         second: above,
-        first_trip: first_trip(pair.first_trip, now, smaller.trip),
-        second_trip: first_trip(pair.second_trip, now, larger.trip),
+        first_trip: pair.first_trip.or(now, smaller.trip),
+        second_trip: pair.second_trip.or(now, larger.trip),
         never_behind: pair.never_behind & accepted & counts & trips,
     }
 }
 
-// So many ticks of both, each with these samples.
-fn run_both(settings: Settings, pair: Pair, ticks: u32, first: u32, second: u32) -> Pair {
+fn run_both(settings: Settings, pair: Pair, stretch: Stretch) -> Pair {
     let mut both = pair;
-    for _ in 0..ticks {
-        both = step(settings, both, first, second);
+    for _ in 0..stretch.ticks {
+        both = step(settings, both, stretch.first, stretch.second);
     }
     both
 }
 
-// So many ticks of a fault, a dip of so many, and the fault again for 400: the first trips, and whether the second was ever behind.
-fn compare(
-    rt: HostRuntime,
-    operation: u32,
-    fault: u32,
-    first: u32,
-    second: u32,
-    dip: u32,
-    first_dip: u32,
-    second_dip: u32,
-) {
+// A fault, a dip, and the fault again for 400 ticks: the first trips, and whether the second was ever behind.
+fn compare(rt: HostRuntime, what: &str, operation: u32, fault: Stretch, dip: Stretch) {
     let settings = settings_of(operation, 200);
-    let clear = Pair {
+    let mut pair = Pair {
         ticks: 0,
         first: PhaseState::clear(),
         second: PhaseState::clear(),
-        first_trip: 0,
-        second_trip: 0,
+        first_trip: FirstTrip(None),
+        second_trip: FirstTrip(None),
         never_behind: true,
     };
-    let started = run_both(settings, clear, fault, first, second);
-    let dipped = run_both(settings, started, dip, first_dip, second_dip);
-    let done = run_both(settings, dipped, 400, first, second);
-    say(rt, b": first trips ");
-    tick_or_none(rt, done.first_trip);
-    say(rt, b" and ");
-    tick_or_none(rt, done.second_trip);
-    verdict(rt, done.never_behind);
+    let again = Stretch {
+        ticks: 400,
+        ..fault
+    };
+    for stretch in [fault, dip, again] {
+        pair = run_both(settings, pair, stretch);
+    }
+    say(
+        rt,
+        format_args!(
+            "{what}: first trips {} and {}",
+            pair.first_trip, pair.second_trip
+        ),
+    );
+    verdict(rt, pair.never_behind);
 }
 
 pub(crate) fn pairs_of_recordings(rt: HostRuntime) {
     say(
         rt,
-        b"\nMore current is never slower: two recordings, the second with at least the current of the first at every tick\n",
+        "\nMore current is never slower: two recordings, the second with at least the current of the first at every tick\n",
     );
     say(
         rt,
-        b"Start current 200, time multiplier 1, delays 40, reset time 60. It agrees if the second's sum, run and trip are at no tick behind the first's.\n",
+        "Start current 200, time multiplier 1, delays 40, reset time 60. It agrees if the second's sum, run and trip are at no tick behind the first's.\n",
     );
-    say(
+    compare(
         rt,
-        b"IEC ExtInv, 15 and 16 times the setting, a dip of 59 ticks to 0 and to 50 %",
+        "IEC ExtInv, 15 and 16 times the setting, a dip of 59 ticks to 0 and to 50 %",
+        4,
+        Stretch::new(100, 300000, 320000),
+        Stretch::new(59, 0, 10000),
     );
-    compare(rt, 4, 100, 300000, 320000, 59, 0, 10000);
-    say(
+    compare(
         rt,
-        b"IEC ExtInv, 15 times the setting, a dip of 60 ticks to just below 95 % and to 95 %",
+        "IEC ExtInv, 15 times the setting, a dip of 60 ticks to just below 95 % and to 95 %",
+        4,
+        Stretch::new(100, 300000, 300000),
+        Stretch::new(60, 18999, 19000),
     );
-    compare(rt, 4, 100, 300000, 300000, 60, 18999, 19000);
-    say(
+    compare(
         rt,
-        b"ANSI Inv, 20 times the setting, a dip of 50 ticks to 0 and to 90 %",
+        "ANSI Inv, 20 times the setting, a dip of 50 ticks to 0 and to 90 %",
+        6,
+        Stretch::new(100, 400000, 400000),
+        Stretch::new(50, 0, 18000),
     );
-    compare(rt, 6, 100, 400000, 400000, 50, 0, 18000);
-    say(
+    compare(
         rt,
-        b"Definite, just above the setting, a dip of 60 ticks to just below 95 % and to 95 %",
+        "Definite, just above the setting, a dip of 60 ticks to just below 95 % and to 95 %",
+        1,
+        Stretch::new(30, 20001, 20001),
+        Stretch::new(60, 18999, 19000),
     );
-    compare(rt, 1, 30, 20001, 20001, 60, 18999, 19000);
 }

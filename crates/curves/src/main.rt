@@ -4,51 +4,37 @@
 
 mod asked;
 
-use asked::{Asked, is_right, read_arguments};
-use program::{say, write_out};
+use asked::{Asked, read_arguments};
+use program::{print, say};
 
-// Answers whether all of it was taken.
-fn write_number(rt: HostRuntime, n: u64) -> bool {
-    let mut text = [0u8; 20];
-    let count = io::decimal(n, &mut text);
-    write_out(rt, &text[..count]) == count
-}
-
-fn write_line(rt: HostRuntime, ratio: u32, time: u64) -> bool {
-    write_number(rt, ratio as u64)
-        && write_out(rt, b",") == 1
-        && write_number(rt, time)
-        && write_out(rt, b"\n") == 1
-}
-
-// 0 where the curve has no time at the ratio.
-fn time_at(operation: u32, ratio: u32) -> u64 {
-    if ratio < 100 {
+// None where the curve has no time at the ratio.
+fn time_at(operation: u32, ratio: u32) -> Option<u64> {
+    let time = if ratio < 100 {
         curve::reset_time(operation, ratio)
     } else {
         curve::operate_time(operation, ratio)
-    }
+    };
+    (time != 0).then_some(time)
 }
 
-fn write_times(rt: HostRuntime, asked: Asked) {
+fn print_times(rt: HostRuntime, asked: Asked) {
     for ratio in asked.first..=asked.last {
-        let time = time_at(asked.operation, ratio);
-        if time != 0 {
-            if !write_line(rt, ratio, time) {
-                return;
-            }
+        if let Some(time) = time_at(asked.operation, ratio)
+            && !print(rt, format_args!("{ratio},{time}\n"))
+        {
+            return;
         }
     }
 }
 
 fn main(rt: HostRuntime) {
-    let asked = read_arguments(rt);
-    if !is_right(rt, asked) {
-        say(
-            rt,
-            b"failed: curves takes an operation, 2 to 12, and two ratios in hundredths, 0 to 2000\n",
-        );
-        return;
+    match read_arguments(rt) {
+        Some(asked) => print_times(rt, asked),
+        None => {
+            say(
+                rt,
+                b"failed: curves takes an operation, 2 to 12, and two ratios in hundredths, 0 to 2000\n",
+            );
+        }
     }
-    write_times(rt, asked);
 }

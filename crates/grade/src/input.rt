@@ -1,10 +1,11 @@
 // The two settings lines on standard input.
+ghost use Rattle.std.specs.Prelude.{IfSome};
 ghost use Rattle.io.specs.Counts.{IsPrefixLen};
 
-use grading::refusal::{Relay, lower_of};
+use grading::refusal::Relay;
 use phase::Settings;
-use program::{Portion, read_portion};
-use rows::{Refusal, SettingsRead, read_settings_line};
+use program::read_portion;
+use rows::{Refusal, read_settings_line};
 use text::cutter::{Cutter, HELD_ROOM};
 use text::lines::Closer;
 
@@ -23,123 +24,74 @@ pub(crate) struct RefusedRelay {
     pub(crate) refusal: Refusal,
 }
 
-// Unread: a read failed, which was told.
-#[derive(Clone, Copy)]
-pub(crate) enum Lines {
-    Unread,
-    Refused(RefusedRelay),
-    Read(Relays),
-}
-
-// Reads to the end of the input, or until the memory is full: what comes after that does not matter.
-fn read_input(rt: HostRuntime, bytes: &mut [u8]) -> Portion
-    ensures { IsPrefixLen result.count bytes.new }
+// Reads to the end of the input, or until the memory is full: what comes after that does not matter. None where a read failed, which
+// is told.
+fn read_input(rt: HostRuntime, bytes: &mut [u8]) -> Option<usize>
+    ensures { IfSome result (λ n. IsPrefixLen n bytes.new) }
 {
     let mut n = 0;
     while n < bytes.len() {
-        let got = read_portion(rt, &mut bytes[n..]);
-        if got.failed {
-            return Portion {
-                count: n,
-                failed: true,
-            };
+        let count = read_portion(rt, &mut bytes[n..])?;
+        if count == 0 {
+            break;
         }
-        if got.count == 0 {
-            return Portion {
-                count: n,
-                failed: false,
-            };
-        }
-        n += got.count;
+        n += count;
     }
-    Portion {
-        count: n,
-        failed: false,
-    }
+    Some(n)
 }
 
 // The settings of a line, and the place after it.
 #[derive(Clone, Copy)]
 struct Line {
-    read: SettingsRead,
+    read: Result<Settings, Refusal>,
     next: usize,
-}
-
-// The line of the first n bytes held. (A part of an array that is a field can't be lent: the part is made here.) There are as many:
-// the test is there for the proof.
-fn read_held(held: &[u8], n: usize) -> SettingsRead {
-    if held.len() < n {
-        return read_settings_line(held);
-    }
-    read_settings_line(&held[..n])
 }
 
 // The settings line from a place on: it runs to and with the next CR LF, or to the end.
 fn read_line(input: &[u8], from: usize) -> Line {
     let piece = Cutter::empty().cut(input, from, HELD_ROOM, Closer::CrLf);
-    let cutter = piece.cutter;
-    let held = cutter.held;
-    let read = read_held(&held, cutter.count);
     Line {
-        read,
+        read: read_settings_line(piece.cutter.line()),
         next: piece.next,
     }
 }
 
-// What a line is refused with; its number is 0 where it is accepted.
-fn refusal_of(read: SettingsRead) -> Refusal {
-    match read {
-        SettingsRead::Accepted(_) => rows::refuse(0),
-        SettingsRead::Refused(refusal) => refusal,
+// Of two refusals: the shape of a line, which has a place, goes before any setting; of the settings the lowest number is told,
+// upstream's where both have it.
+fn is_downstream_told(upstream: Refusal, downstream: Refusal) -> bool {
+    upstream.place.is_none() && (downstream.place.is_some() || downstream.number < upstream.number)
+}
+
+fn relays_of(
+    upstream: Result<Settings, Refusal>,
+    downstream: Result<Settings, Refusal>,
+) -> Result<Relays, RefusedRelay> {
+    match (upstream, downstream) {
+        (Ok(upstream), Ok(downstream)) => Ok(Relays {
+            upstream,
+            downstream,
+        }),
+        (Err(above), Err(below)) if is_downstream_told(above, below) => Err(RefusedRelay {
+            relay: Relay::Downstream,
+            refusal: below,
+        }),
+        (Err(refusal), _) => Err(RefusedRelay {
+            relay: Relay::Upstream,
+            refusal,
+        }),
+        (_, Err(refusal)) => Err(RefusedRelay {
+            relay: Relay::Downstream,
+            refusal,
+        }),
     }
 }
 
-fn refused(relay: Relay, refusal: Refusal) -> Lines {
-    Lines::Refused(RefusedRelay { relay, refusal })
-}
-
-fn accepted(upstream: SettingsRead, downstream: SettingsRead) -> Lines {
-    match upstream {
-        SettingsRead::Refused(refusal) => refused(Relay::Upstream, refusal),
-        SettingsRead::Accepted(above) => match downstream {
-            SettingsRead::Refused(refusal) => refused(Relay::Downstream, refusal),
-            SettingsRead::Accepted(below) => Lines::Read(Relays {
-                upstream: above,
-                downstream: below,
-            }),
-        },
-    }
-}
-
-// The shape of a line goes before any setting; a refusal of the shape has a field. Of the settings the lowest number is told.
-fn lines_of(upstream: SettingsRead, downstream: SettingsRead) -> Lines {
-    let above = refusal_of(upstream);
-    if above.field != 0 {
-        return refused(Relay::Upstream, above);
-    }
-    let below = refusal_of(downstream);
-    if below.field != 0 {
-        return refused(Relay::Downstream, below);
-    }
-    let lower = lower_of(above.number, below.number, 0);
-    let relay = lower.relay;
-    match relay {
-        Relay::Upstream => refused(relay, above),
-        Relay::Downstream => refused(relay, below),
-        Relay::Neither => accepted(upstream, downstream),
-    }
-}
-
-pub(crate) fn read_lines(rt: HostRuntime) -> Lines {
+// None where a read failed, which is told.
+pub(crate) fn read_relays(rt: HostRuntime) -> Option<Result<Relays, RefusedRelay>> {
     let mut bytes = [0u8; ROOM];
-    let got = read_input(rt, &mut bytes);
-    if got.failed {
-        return Lines::Unread;
-    }
-    let input = &bytes[..got.count];
+    let n = read_input(rt, &mut bytes)?;
+    let input = &bytes[..n];
     let upstream = read_line(input, 0);
     let downstream = read_line(input, upstream.next);
-    let above = upstream.read;
-    let below = downstream.read;
-    lines_of(above, below)
+    Some(relays_of(upstream.read, downstream.read))
 }

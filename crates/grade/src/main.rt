@@ -5,89 +5,82 @@
 
 mod asked;
 mod input;
-mod output;
 
 use asked::asked_margin;
 use grading::margin::margin_at;
 use grading::margins::{Graded, margins};
 use grading::refusal::Relay;
-use input::{Lines, read_lines};
-use output::{write_end, write_margin};
-use phase::Settings;
-use program::say;
-use rows::Refusal;
+use input::{RefusedRelay, Relays, read_relays};
+use program::{print, say};
 use words::say_reason;
 
-// Every refusal that the program meets names a relay.
-fn say_relay(rt: HostRuntime, relay: Relay) -> usize {
-    match relay {
-        Relay::Upstream => say(rt, b"upstream"),
-        Relay::Downstream => say(rt, b"downstream"),
-        Relay::Neither => 0,
-    }
+// `end,COUNT,SMALLEST,RATIO,NUMBER`: answers whether all of it was taken.
+fn print_end(rt: HostRuntime, graded: Graded) -> bool {
+    let Graded {
+        refusal,
+        count,
+        smallest,
+        ratio,
+    } = graded;
+    print(
+        rt,
+        format_args!("end,{count},{smallest},{ratio},{}\n", refusal.number),
+    )
 }
 
 // The end line, the relay's name and the reason.
-fn refuse(rt: HostRuntime, relay: Relay, refusal: Refusal) {
-    let end = Graded {
-        refusal: grading::refusal::Refusal {
-            number: refusal.number,
-            relay,
-        },
-        count: 0,
-        smallest: 0,
-        ratio: 0,
-    };
-    if !write_end(rt, end) {
+fn refuse(rt: HostRuntime, refused: RefusedRelay) {
+    let RefusedRelay { relay, refusal } = refused;
+    if !print(rt, format_args!("end,0,0,0,{}\n", refusal.number)) {
         return;
     }
-    say_relay(rt, relay);
+    say(
+        rt,
+        match relay {
+            Relay::Upstream => b"upstream",
+            Relay::Downstream => b"downstream",
+        },
+    );
     say_reason(rt, refusal);
 }
 
-fn grade(rt: HostRuntime, upstream: Settings, downstream: Settings, wanted: i64) {
+fn grade(rt: HostRuntime, relays: Relays, wanted: i64) {
+    let Relays {
+        upstream,
+        downstream,
+    } = relays;
     let mut list = [0u32; Graded::RATIO_COUNT];
     let graded = margins(upstream, downstream, wanted, &mut list);
-    let refusal = graded.refusal;
-    if refusal.number != 0 {
-        let relay = refusal.relay;
-        refuse(rt, relay, rows::refuse(refusal.number));
+    if let Some(relay) = graded.refusal.relay {
+        let refusal = rows::refuse(graded.refusal.number);
+        refuse(rt, RefusedRelay { relay, refusal });
         return;
     }
-    for i in 0..Graded::RATIO_COUNT {
-        if i == graded.count {
-            break;
-        }
-        let ratio = list[i];
-        let margin = margin_at(upstream, downstream, ratio);
-        if !write_margin(rt, ratio, margin) {
+    for ratio in list.iter().take(graded.count) {
+        let margin = margin_at(upstream, downstream, *ratio);
+        // `ratio,upstream,downstream,difference`
+        let line = format_args!(
+            "{ratio},{},{},{}\n",
+            margin.upstream, margin.downstream, margin.difference
+        );
+        if !print(rt, line) {
             return;
         }
     }
-    write_end(rt, graded);
+    print_end(rt, graded);
 }
 
 fn main(rt: HostRuntime) {
-    let asked = asked_margin(rt);
-    if !asked.is_right {
+    let Some(wanted) = asked_margin(rt) else {
         say(
             rt,
             b"failed: grade takes one wanted margin in ticks, 1 to 10 digits after an optional minus\n",
         );
         return;
-    }
-    let lines = read_lines(rt);
-    match lines {
-        Lines::Unread => {}
-        Lines::Refused(refused) => {
-            let relay = refused.relay;
-            let refusal = refused.refusal;
-            refuse(rt, relay, refusal);
-        }
-        Lines::Read(relays) => {
-            let upstream = relays.upstream;
-            let downstream = relays.downstream;
-            grade(rt, upstream, downstream, asked.wanted);
-        }
+    };
+    match read_relays(rt) {
+        Some(Ok(relays)) => grade(rt, relays, wanted),
+        Some(Err(refused)) => refuse(rt, refused),
+        None => {}
     }
 }

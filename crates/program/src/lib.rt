@@ -8,7 +8,7 @@ mod file;
 mod input;
 mod output;
 
-pub use arguments::{argument, argument_count, path_argument};
+pub use arguments::{argument, argument_count, number_argument, number_of, path_argument};
 pub use file::{PATH_ROOM, open_file};
-pub use input::{Portion, read_portion, read_portion_of};
-pub use output::{say, say_number, write_out};
+pub use input::{read_portion, read_portion_of};
+pub use output::{print, say, say_number, write_out};

@@ -6,9 +6,11 @@ ghost use Rattle.program.specs.Output.{NumberSaid};
 
 use crate::failure::{EINTR, say_failure};
 use io::decimal;
-use std::io::{Error, ErrorKind, Result, Write};
+use std::fmt::Display;
+use std::io::{Error, ErrorKind, Print, Result, Write};
 
-// How many bytes were taken, and what ended it: `Ok` where nothing failed.
+// How many bytes were taken, and what ended it: `Ok` where nothing failed. The count is there beside an error too: `write_out` and
+// `say` promise it.
 #[derive(Drop)]
 struct Written {
     count: usize,
@@ -20,28 +22,26 @@ fn write_all<W: Write>(to: &mut W, bytes: &[u8]) -> Written
     ensures { IsPrefixLen result.count bytes.now }
 {
     let mut count = 0;
+    let mut ended = Err(Error::from_raw_os_error(EINTR));
     // A function must be seen to end. No output takes so many calls.
     for _ in 0..u64::MAX {
         if count == bytes.len() {
-            return Written {
-                count,
-                ended: Ok(()),
-            };
+            ended = Ok(());
+            break;
         }
         match to.write(&bytes[count..]) {
             Ok(0) => {
-                let ended = Err(Error::from(ErrorKind::WriteZero));
-                return Written { count, ended };
+                ended = Err(Error::from(ErrorKind::WriteZero));
+                break;
             }
             Ok(taken) => count += taken,
             Err(error) if error.kind() == ErrorKind::Interrupted => {}
             Err(error) => {
-                let ended = Err(error);
-                return Written { count, ended };
+                ended = Err(error);
+                break;
             }
         }
     }
-    let ended = Err(Error::from_raw_os_error(EINTR));
     Written { count, ended }
 }
 
@@ -52,7 +52,7 @@ pub fn write_out(rt: HostRuntime, bytes: &[u8]) -> usize
 {
     let written = write_all(&mut rt.stdout(), bytes);
     if let Err(error) = written.ended {
-        say_failure(rt, b"writing ", b"standard output", error);
+        say_failure(rt, "writing", b"standard output", error);
     }
     written.count
 }
@@ -71,4 +71,14 @@ pub fn say_number(rt: HostRuntime, n: u64) -> usize
     let mut text = [0u8; 20];
     let count = decimal(n, &mut text);
     say(rt, &text[..count])
+}
+
+// Prints on standard output and answers whether all of it was taken: where a write failed, that is told on standard error.
+pub fn print<D: Display + Drop>(rt: HostRuntime, text: D) -> bool {
+    let printed = rt.stdout().print(text);
+    if let Err(error) = printed {
+        say_failure(rt, "writing", b"standard output", error);
+        return false;
+    }
+    true
 }

@@ -4,7 +4,7 @@
 
 use files::LONGEST_LINE;
 use runs::PORTION;
-use steps::{Configuration, Form, RECORD_SPREAD};
+use steps::{Form, RECORD_SPREAD};
 
 // Room for the rows of a portion, whatever the state holds.
 const ROOM: usize = RECORD_SPREAD * (LONGEST_LINE + PORTION);
@@ -12,15 +12,7 @@ const ROOM: usize = RECORD_SPREAD * (LONGEST_LINE + PORTION);
 fn main(rt: HostRuntime) {
     let mut portion = [0u8; PORTION];
     let mut rows = [0u8; ROOM];
-    let end = runs::run(
-        rt,
-        Form::Record,
-        Configuration::Absent,
-        &mut portion,
-        &mut rows,
-    );
-    if end.failed {
-        return;
+    if let Some(state) = runs::run(rt, Form::Record, None, &mut portion, &mut rows) {
+        runs::tell(rt, state);
     }
-    runs::tell(rt, end.state);
 }

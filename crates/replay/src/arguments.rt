@@ -1,15 +1,10 @@
 // The arguments of the program: none, or `--config` and the name of a configuration file.
-use program::{PATH_ROOM, argument, argument_count};
+use program::{PATH_ROOM, argument, argument_count, path_argument};
 use steps::Configuration;
-use text::bytes::read64;
 
-// Whether the first argument is `--config`: eight bytes, compared as one number.
 fn has_option(rt: HostRuntime) -> bool {
     let mut word = [0u8; 8];
-    if argument(rt, 1, &mut word) != 8 {
-        return false;
-    }
-    read64(&word, 0) == read64(b"--config", 0)
+    argument(rt, 1, &mut word).is_some() && word == *b"--config"
 }
 
 pub(crate) fn are_right(rt: HostRuntime) -> bool {
@@ -22,11 +17,7 @@ pub(crate) fn are_right(rt: HostRuntime) -> bool {
 
 // What the named file gives, where one is named; its portions are read into lent memory.
 pub(crate) fn asked_configuration(rt: HostRuntime, portion: &mut [u8]) -> Configuration {
-    if argument_count(rt) != 3 {
-        return Configuration::Absent;
-    }
     let mut path = [0u8; PATH_ROOM];
-    let n = program::path_argument(rt, 2, &mut path);
-    let read = runs::read_configuration(rt, &path[..n], portion);
-    Configuration::Given(read)
+    let n = path_argument(rt, 2, &mut path)?;
+    Some(runs::read_configuration(rt, &path[..n], portion))
 }

@@ -22,11 +22,10 @@ fn main(rt: HostRuntime) {
     let mut portion = [0u8; PORTION];
     let configuration = arguments::asked_configuration(rt, &mut portion);
     let mut changes = [0u8; ROOM];
-    let end = runs::run(rt, Form::Changes, configuration, &mut portion, &mut changes);
-    if end.failed {
+    let run = runs::run(rt, Form::Changes, configuration, &mut portion, &mut changes);
+    let Some(state) = run else {
         return;
-    }
-    let state = end.state;
+    };
     let mut out = [0u8; END_ROOM];
     let w = files::finish(state, &mut out);
     if program::write_out(rt, &out[..w]) == w {

@@ -14,9 +14,9 @@ use list::each;
 // As bytes of the code the cases would make its check longer.
 fn read_cases(rt: HostRuntime) {
     let mut cases = [0u8; 8192];
-    let got = program::read_portion(rt, &mut cases);
-    let n = got.count;
-    each(rt, &cases[..n]);
+    if let Some(n) = program::read_portion(rt, &mut cases) {
+        each(rt, &cases[..n]);
+    }
 }
 
 fn main(rt: HostRuntime) {

@@ -1,32 +1,19 @@
 // The library's calls with just enough room for what they may write, and with too little.
-use crate::line::{say, say_count};
 use files::{LONGEST_LINE, Replay};
-use steps::{Configuration, END_ROOM, Form};
-
-fn say_taken(rt: HostRuntime, taken: bool) {
-    if taken {
-        say(rt, b": taken\n");
-    } else {
-        say(rt, b": not taken\n");
-    }
-}
+use steps::{END_ROOM, Form};
 
 // Feeds five bytes to a state that holds `held` bytes.
-fn feed(rt: HostRuntime, name: &[u8], form: Form, held: usize, out: &mut [u8]) {
-    say(rt, name);
-    let mut state = Replay::fresh(form, Configuration::Absent);
+fn feed(rt: HostRuntime, name: &str, form: Form, held: usize, out: &mut [u8]) {
+    let mut state = Replay::fresh(form, None);
     state.cutter.count = held;
-    let t = files::feed(state, b"1,200", out);
-    say_taken(rt, t.taken);
+    let fed = files::feed(state, b"1,200", out);
+    let taken = if fed.taken { "taken" } else { "not taken" };
+    let _ = print!(rt; "{name}: {taken}\n");
 }
 
-fn end(rt: HostRuntime, name: &[u8], out: &mut [u8]) {
-    say(rt, name);
-    say_count(
-        rt,
-        files::finish(Replay::fresh(Form::Changes, Configuration::Absent), out),
-    );
-    say(rt, b" bytes written\n");
+fn end(rt: HostRuntime, name: &str, out: &mut [u8]) {
+    let written = files::finish(Replay::fresh(Form::Changes, None), out);
+    let _ = print!(rt; "{name}: {written} bytes written\n");
 }
 
 pub(crate) fn feeds(rt: HostRuntime) {
@@ -35,21 +22,21 @@ pub(crate) fn feeds(rt: HostRuntime) {
     let mut large = [7u8; 100];
     feed(
         rt,
-        b"a portion of 5 bytes, room for 5",
+        "a portion of 5 bytes, room for 5",
         Form::Changes,
         0,
         &mut five,
     );
     feed(
         rt,
-        b"a portion of 5 bytes, room for 4",
+        "a portion of 5 bytes, room for 4",
         Form::Changes,
         0,
         &mut four,
     );
     feed(
         rt,
-        b"a state that holds 46 bytes",
+        "a state that holds 46 bytes",
         Form::Changes,
         LONGEST_LINE + 1,
         &mut large,
@@ -62,14 +49,14 @@ pub(crate) fn record_feeds(rt: HostRuntime) {
     let mut short = [7u8; 24];
     feed(
         rt,
-        b"for the record, room for 25",
+        "for the record, room for 25",
         Form::Record,
         0,
         &mut enough,
     );
     feed(
         rt,
-        b"for the record, room for 24",
+        "for the record, room for 24",
         Form::Record,
         0,
         &mut short,
@@ -79,6 +66,6 @@ pub(crate) fn record_feeds(rt: HostRuntime) {
 pub(crate) fn ends(rt: HostRuntime) {
     let mut short = [7u8; END_ROOM - 1];
     let mut enough = [7u8; END_ROOM];
-    end(rt, b"an end line with room for 25: ", &mut short);
-    end(rt, b"an end line with room for 26: ", &mut enough);
+    end(rt, "an end line with room for 25", &mut short);
+    end(rt, "an end line with room for 26", &mut enough);
 }

@@ -4,7 +4,8 @@ use mathlib.Core.Path.{◌≡◌, refl, ap, ◌∙◌}
 use mathlib.Core.List.{List, [], ◌∷◌, ◌++◌}
 use Prim.Native.Nat.{ℕ}
 use Rattle.config.specs.declared.reader.Reader.{Reader}
-use Rattle.config.specs.declared.reader.ConfigRead.{ConfigRead}
+use Rattle.config.specs.declared.reader.Fault.{Fault}
+use Rattle.std.specs.Prelude.{Result}
 use Rattle.config.specs.Reader.{fresh_reader, take_answer, taken_all, end_answer}
 use Rattle.runs.specs.Configuration.{ReaderReached, ConfigReached}
 
@@ -21,7 +22,7 @@ reached_taken r after p h taken = record {
   taken = taken ∙ ap (λ (x : Reader). take_answer x p) h.taken ∙ taken_then fresh_reader h.portions p;
 }
 
-pub reached_end : (r : Reader) (x : ConfigRead) → ReaderReached r → x ≡ end_answer r → ConfigReached x
+pub reached_end : (r : Reader) (x : Result ℕ Fault) → ReaderReached r → x ≡ end_answer r → ConfigReached x
 reached_end r x h answer = record {
   portions = h.portions;
   answer = answer ∙ ap (λ (y : Reader). end_answer y) h.taken;

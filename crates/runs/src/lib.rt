@@ -7,5 +7,5 @@ mod portions;
 mod refusal;
 
 pub use configuration::read_configuration;
-pub use portions::{Ended, PORTION, run};
+pub use portions::{PORTION, run};
 pub use refusal::tell;

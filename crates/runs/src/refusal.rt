@@ -2,12 +2,12 @@
 ghost use Rattle.std.specs.Prelude.{◌≡◌};
 ghost use Rattle.files.specs.Replay.{refusal_at_end};
 
-use config::ConfigRead;
 use files::Replay;
-use program::{say, say_number};
+use program::say;
 use rows::Refusal;
+use std::io::Write;
 use steps::refusals::WRONG_LAST_SAMPLE;
-use steps::{Configuration, END_ROOM, Form};
+use steps::{END_ROOM, Form};
 use words::say_reason;
 
 // The end line without its LF.
@@ -18,51 +18,20 @@ fn say_end(rt: HostRuntime, state: Replay) {
     say(rt, b": ");
 }
 
-// The record has no end line on standard output: it begins what is said.
-fn say_end_of_record(rt: HostRuntime, state: Replay) {
-    let form = state.form;
-    match form {
-        Form::Changes => {}
-        Form::Record => say_end(rt, state),
-        Form::Explain(_) => {}
-        Form::ExplainAll => {}
-    }
-}
-
-// The number of a configuration's refused line, 0 where none was refused.
-fn refused_line(configuration: Configuration) -> u32 {
-    match configuration {
-        Configuration::Absent => 0,
-        Configuration::Given(answer) => match answer {
-            ConfigRead::Accepted(_) => 0,
-            ConfigRead::Refused(fault) => fault.line,
-        },
-    }
-}
-
-// After the settings line: a line of the configuration, or the row due.
-fn say_line(rt: HostRuntime, configuration: Configuration, done: u32) -> usize {
-    let line = refused_line(configuration);
-    if line != 0 {
-        say(rt, b"line ");
-        say_number(rt, line as u64);
-        return say(rt, b" of the configuration");
-    }
-    say(rt, b"row ");
-    say_number(rt, done as u64 + 1)
-}
-
-// What was refused: the settings that a replay holds pass their check once a settings line was accepted.
-fn say_what(rt: HostRuntime, state: Replay, refusal: Refusal) -> usize {
+// What was refused: the settings that a replay holds pass their check once a settings line was accepted; after it a line of the
+// configuration, or the row due.
+fn say_what(rt: HostRuntime, state: Replay, refusal: Refusal) {
     let progress = state.progress;
-    if progress.settings.check() != 0 {
-        return say(rt, b"settings line");
-    }
-    if refusal.number == WRONG_LAST_SAMPLE {
-        return say(rt, b"recording");
-    }
-    let configuration = progress.configuration;
-    say_line(rt, configuration, progress.done)
+    let mut out = rt.stderr();
+    let _ = if progress.settings.check() != 0 {
+        write!(out, "settings line")
+    } else if refusal.number == WRONG_LAST_SAMPLE {
+        write!(out, "recording")
+    } else if let Some(Err(fault)) = progress.configuration {
+        write!(out, "line {} of the configuration", fault.line)
+    } else {
+        write!(out, "row {}", progress.done as u64 + 1)
+    };
 }
 
 // Says nothing where nothing was refused. Answers the refusal's number, which is all that a contract can say of it.
@@ -70,11 +39,13 @@ pub fn tell(rt: HostRuntime, state: Replay) -> u32
     ensures { result ≡ (refusal_at_end state).number }
 {
     let refusal = files::refusal_at_end(state);
-    let number = refusal.number;
-    if number == 0 {
-        return number;
+    if refusal.number == 0 {
+        return 0;
     }
-    say_end_of_record(rt, state);
+    // The record has no end line on standard output: it begins what is said.
+    if matches!(state.form, Form::Record) {
+        say_end(rt, state);
+    }
     say_what(rt, state, refusal);
     say_reason(rt, refusal)
 }

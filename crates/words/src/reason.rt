@@ -1,34 +1,42 @@
 // Why something was refused: the number, the place in the line where it has one, and the words.
 ghost use Rattle.std.specs.Prelude.{◌≡◌};
 
-use crate::words::{say_hint, say_refusal};
-use program::{say, say_number};
-use rows::Refusal;
+use crate::words::{hint_of, meaning, part};
+use rows::{Place, Refusal};
+use std::fmt;
+use std::fmt::{Display, Formatter};
+use std::io::Write;
 
-// Where it stands in the line, which only a refusal of a line's shape tells: no other has a field.
-fn say_place(rt: HostRuntime, refusal: Refusal) {
-    if refusal.field == 0 {
-        return;
+// How a line ends that begins with what was refused.
+#[derive(Clone, Copy)]
+struct Reason(Refusal);
+
+impl Display for Reason {
+    fn fmt<W: fmt::Write>(&self, f: &mut Formatter<W>) -> fmt::Result {
+        let Refusal {
+            number,
+            place,
+            hint,
+        } = self.0;
+        write!(f, ": refused {number}: ")?;
+        if let Some(Place { offset, field }) = place {
+            write!(f, "byte {offset}, field {field}: ")?;
+        }
+        match part(number) {
+            Some(part) => write!(f, "{part} is missing, malformed or not one that we take")?,
+            None => write!(f, "{}", meaning(number))?,
+        }
+        match hint {
+            Some(hint) => write!(f, "; {}", hint_of(hint)),
+            None => Ok(()),
+        }
     }
-    say(rt, b"byte ");
-    say_number(rt, refusal.offset as u64);
-    say(rt, b", field ");
-    say_number(rt, refusal.field as u64);
-    say(rt, b": ");
 }
 
 // Ends a line that begins with what was refused. Answers the refusal's number, which is all that a contract can say of it.
 pub fn say_reason(rt: HostRuntime, refusal: Refusal) -> u32
     ensures { result ≡ refusal.number }
 {
-    let number = refusal.number;
-    say(rt, b": refused ");
-    say_number(rt, number as u64);
-    say(rt, b": ");
-    say_place(rt, refusal);
-    say_refusal(rt, number);
-    let hint = refusal.hint;
-    say_hint(rt, hint);
-    say(rt, b"\n");
-    number
+    let _ = writeln!(rt.stderr(), "{}", Reason(refusal));
+    refusal.number
 }
