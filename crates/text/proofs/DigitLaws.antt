@@ -56,7 +56,7 @@ module _ (w n v p : ℕ) (s : List ℕ) where
   abbrev here : Digits
   here = record { count = n; value = v }
 
-  digits_full : w ≤ n → here ≡ rest
+  pub digits_full : w ≤ n → here ≡ rest
   unfolding leading value_from
   digits_full h = let e : w - n ≡ 0 = omega arith in let z : n + 0 ≡ n = omega arith in rw (e, z)
 
@@ -64,7 +64,7 @@ module _ (w n v p : ℕ) (s : List ℕ) where
     split : w - n ≡ suc (w - (n + 1))
     split = omega arith
 
-    digits_end : p ≡ length s → here ≡ rest
+    pub digits_end : p ≡ length s → here ≡ rest
     unfolding leading value_from
     digits_end e = let z : n + 0 ≡ n = omega arith in rw (split, e, drop-length s, z)
 
