@@ -46,8 +46,8 @@ fn smaller(before: Option<Smallest>, difference: i64, ratio: u32) -> Smallest
     }
 }
 
-// Lists a ratio that is too close, after those that were listed before, and answers how many there are. The list is the caller's, with a
-// count beside it: this crate has no heap for one of its own.
+// Lists a ratio that is too close, after those that were listed before, and answers how many there are. The list is the caller's,
+// with a count beside it: there is no heap for one of its own.
 fn list_ratio(list: &mut [u32], count: usize, ratio: u32, is_close: bool) -> usize
     requires { count < length list.old }
     ensures { record { count = result; list = list.new } ≡ counted list.old count ratio (is_close) }

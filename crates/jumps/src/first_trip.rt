@@ -25,8 +25,8 @@ fn wait_for(delay: u32, run: u32) -> u64
     delay.saturating_sub(run).max(1) as u64
 }
 
-// The first tick at which a sum is full, once the wait is over. To the ratio 100 it stands still; from 101 on it grows by the gain, which
-// is never 0 there.
+// The first tick at which a sum is full, once the wait is over. To the ratio 100 it stands still; from 101 on it grows by the gain,
+// which is never 0 there.
 fn first_full(n: u32, wait: u64, level: u64, sum: u64, ratio: u32, gain: u64) -> Option<u32>
     requires some_wait { 0 < wait }
     requires some_gain { 100 < ratio → 0 < gain }

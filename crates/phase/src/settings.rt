@@ -5,7 +5,8 @@ ghost use Rattle.phase.specs.Settings.{settings_checks, settings_refusal, trip_l
 
 use checks::{first_failed, in_range};
 
-// In the order of the document's table.
+// In the order of the document's table. Plain numbers, also where they say a kind or yes and no: C gives them, and the check refuses
+// those that are out of range.
 #[derive(Clone, Copy)]
 pub struct Settings {
     pub operation: u32,

@@ -1,7 +1,7 @@
 // The reason why a tick did or did not trip.
 ghost use Rattle.std.specs.Prelude.{◌≡◌};
 ghost use Rattle.why.specs.Reason.{delay_of};
-ghost use Rattle.why.specs.device.Decided.{trip_reason, sum_reason, on_reason, reason_by};
+ghost use Rattle.why.specs.device.Decided.{reason_by};
 
 use phase::operation::{Kind, Timing};
 use phase::settings::trip_level;
@@ -29,43 +29,19 @@ fn delay_of(timing: Timing, settings: Settings) -> u32
     }
 }
 
-// The phase trip is on: the block alone decides.
-fn trip_reason(block: u8) -> Reason
-    ensures { result ≡ trip_reason block }
-{
-    if block == 1 {
-        Reason::Blocked
-    } else {
-        Reason::Tripped
-    }
-}
-
-// Enough ticks are running. Only a curve has a sum.
-fn sum_reason(timing: Timing, settings: Settings, after: PhaseState, block: u8) -> Reason
-    ensures { result ≡ sum_reason timing settings after block }
-{
-    match timing {
-        Timing::Definite => trip_reason(block),
-        Timing::Curve(_) => {
-            let level = trip_level(settings);
-            if after.sum < level {
-                return Reason::SumBelowLevel(level - after.sum);
-            }
-            trip_reason(block)
-        }
-    }
-}
-
-// The operation is on.
-fn on_reason(
-    timing: Timing,
+// By the tick's start output and the state after it. Only a curve has a sum; where the phase trip is on, the block alone decides.
+pub(crate) fn reason_by(
+    kind: Kind,
     settings: Settings,
     start: bool,
     after: PhaseState,
     block: u8,
 ) -> Reason
-    ensures { result ≡ on_reason timing settings start after block }
+    ensures { result ≡ reason_by kind settings start after block }
 {
+    let Kind::On(timing) = kind else {
+        return Reason::OperationOff;
+    };
     if !start {
         return Reason::NotStarted;
     }
@@ -76,21 +52,10 @@ fn on_reason(
     if after.run < delay {
         return Reason::TooFewTicks(delay - after.run);
     }
-    sum_reason(timing, settings, after, block)
-}
-
-// By the tick's start output and the state after it.
-pub(crate) fn reason_by(
-    kind: Kind,
-    settings: Settings,
-    start: bool,
-    after: PhaseState,
-    block: u8,
-) -> Reason
-    ensures { result ≡ reason_by kind settings start after block }
-{
-    match kind {
-        Kind::Off => Reason::OperationOff,
-        Kind::On(timing) => on_reason(timing, settings, start, after, block),
+    let level = trip_level(settings);
+    match timing {
+        Timing::Curve(_) if after.sum < level => Reason::SumBelowLevel(level - after.sum),
+        _ if block == 1 => Reason::Blocked,
+        _ => Reason::Tripped,
     }
 }
