@@ -6,7 +6,7 @@ ghost use Rattle.config.specs.Reader.{line_limit, taken, take_answer, last_readi
 
 use crate::line::{LONGEST_LINE, is_right_at, last_sample};
 use crate::refusals::MULTIPLIER;
-use crate::shape::{LAST_LINE, number_of};
+use crate::shape::{LAST_LINE, shape_at};
 use checks::in_range;
 use text::cutter::Cutter;
 use text::lines::{Closer, Cut};
@@ -44,7 +44,7 @@ fn number_due(line: u32) -> u32
     ensures { result ≡ number_due line }
 {
     if in_range(1, LAST_LINE, line) {
-        number_of((line - 1) as usize)
+        shape_at((line - 1) as usize).number
     } else {
         MULTIPLIER
     }
@@ -103,6 +103,7 @@ fn take_bytes(state: Reader, portion: &[u8]) -> Reader
         mut reading,
         mut cutter,
     } = state;
+    // A turn is a piece of the cutter's, as long as it comes: no iterator goes by those.
     let mut i = 0;
     while i < portion.len() {
         let piece = cutter.cut(portion, i, LINE_LIMIT, Closer::CrLf);

@@ -1,67 +1,65 @@
 -- Words and sorts of fields, from what the code has at hand.
 -- Assumes nothing.
-use mathlib.Core.Path.{◌≡◌, refl, sym, ap, ◌∙◌}
-use mathlib.Core.Bool.{Bool, true, false, ◌&&◌}
-use mathlib.Core.List.{List, [], ◌∷◌}
-use Prim.Native.Nat.{ℕ, suc, ◌+◌, ◌-◌, ◌≤◌, ◌<◌}
-use native.Mathlib.Numerals.{add-one}
+use mathlib.Core.Path.{◌≡◌, refl}
+use mathlib.Core.Bool.{Bool, true, false, false≢true}
+use mathlib.Core.List.{List, [], ◌∷◌, map}
+use Prim.Native.Nat.{ℕ, ◌≤◌}
 use native.Mathlib.Omega.{arith}
 use lib.Dec.{eqb}
-use lib.ListN.{length, get_or, drop, drop_of_length-le}
-use lib.Seq.{drop-cons}
-use borrow.Author.Tests.{eq-eqb, ne_eqb, leb-true, ltb-true}
-use Rattle.checks.proofs.Tests.{below_range, above_range, is_in_range}
-use Rattle.text.specs.Number.{digit_limit}
+use borrow.Author.Tests.{eq-eqb, eqb-true}
+use Rattle.std.specs.Prelude.{◌↔◌}
+use Rattle.checks.specs.Range.{in_range}
+use Rattle.checks.proofs.Cases.{same_test}
+use Rattle.checks.proofs.Tests.{both_true, in_range_law}
 use Rattle.text.specs.Words.{bytes_of}
-use Rattle.fields.specs.declared.field.Field.{Field}
-use Rattle.fields.specs.declared.field.Field.TheVariants.{Whole, Decimal}
-use Rattle.fields.specs.Number.{is_number, is_number_or_nothing}
+use Rattle.std.specs.Char.{to_ascii_lowercase}
+use Rattle.std.proofs.lemmas.Bool.Decides.{nat_tests}
+use Rattle.fields.specs.Marks.{all_within}
 use Rattle.fields.specs.Field.{capital_of, is_word, is_primary_or_secondary}
-use Rattle.fields.specs.device.Calls.{large_value, readable}
 
--- ---- a letter's capital
+-- ---- a word of capitals, in any case of letters
 
-pub before_letters : (b : ℕ) → b < 97 → capital_of b ≡ b
-before_letters b h = rw (below_range 97 122 b h)
+module _ (b c : ℕ) (low : 65 ≤ c) (high : c ≤ 90) where
+  letter_same : to_ascii_lowercase b ≡ to_ascii_lowercase c → capital_of b ≡ c
+  letter_same e = grind (arith, nat_tests)
 
-pub after_letters : (b : ℕ) → 122 < b → capital_of b ≡ b
-after_letters b h = rw (above_range 97 122 b h)
+  same_letter : capital_of b ≡ c → to_ascii_lowercase b ≡ to_ascii_lowercase c
+  same_letter e = grind (arith, nat_tests)
 
-pub letter : (b : ℕ) → 97 ≤ b → b ≤ 122 → capital_of b ≡ b - 32
-letter b h k = rw (is_in_range 97 122 b h k)
+same_head : (a b : ℕ) (s t : List ℕ) → a ∷ s ≡ b ∷ t → (a ≡ b) × (s ≡ t)
+same_head a b s t e = (cc, cc)
 
--- ---- a word
+word_lower : (w s : List ℕ) → all_within 65 90 w ≡ true → is_word w s ≡ true → map to_ascii_lowercase s ≡ map to_ascii_lowercase w
+unfolding is_word all_within
+word_lower [] [] h e = refl
+word_lower [] (b ∷ s) h e = absurd (false≢true e)
+word_lower (c ∷ w) [] h e = absurd (false≢true e)
+word_lower (c ∷ w) (b ∷ s) h e =
+    let (capital, others) = both_true (in_range 65 90 c) (all_within 65 90 w) h in
+    let (here, more) = both_true (eqb (capital_of b) c) (is_word w s) e in
+    let (low, high) = in_range_law 65 90 c capital in
+    let first = same_letter b c low high (eqb-true (capital_of b) c here) in
+    let rest = word_lower w s others more in
+    rw (first, rest)
 
-pub other_length : (w s : List ℕ) → (length w ≡ length s → ⊥) → is_word w s ≡ false
-unfolding is_word
-other_length [] [] h = absurd (h refl)
-other_length [] (b ∷ s) h = refl
-other_length (c ∷ w) [] h = refl
-other_length (c ∷ w) (b ∷ s) h = rw (other_length w s (λ e. h (ap suc e))) (by_false (eqb (capital_of b) c))
-  where
-    by_false : (t : Bool) → t && false ≡ false
-    by_false true = refl
-    by_false false = refl
+lower_word : (w s : List ℕ) → all_within 65 90 w ≡ true → map to_ascii_lowercase s ≡ map to_ascii_lowercase w → is_word w s ≡ true
+unfolding is_word all_within
+lower_word [] [] h e = refl
+lower_word [] (b ∷ s) h e = cc
+lower_word (c ∷ w) [] h e = cc
+lower_word (c ∷ w) (b ∷ s) h e =
+    let (capital, others) = both_true (in_range 65 90 c) (all_within 65 90 w) h in
+    let (low, high) = in_range_law 65 90 c capital in
+    let (here, more) = same_head (to_ascii_lowercase b) (to_ascii_lowercase c) (map to_ascii_lowercase s) (map to_ascii_lowercase w) e in
+    rw (eq-eqb (capital_of b) c (letter_same b c low high here)) (lower_word w s others more)
 
-module _ (w s : List ℕ) (same : length w ≡ length s) (i : ℕ) where
-  module _ (more : i < length s) where
-    first_letter : is_word (drop i w) (drop i s) ≡ eqb (capital_of (get_or s i 0)) (get_or w i 0) && is_word (drop (i + 1) w) (drop (i + 1) s)
-    unfolding is_word
-    first_letter =
-        let more_word : i < length w = omega (arith, same, more) in
-        rw (drop-cons w i 0 more_word, drop-cons s i 0 more, add-one i)
+-- the library's test of two texts, whatever the case of their letters
+pub word_same : (w s : List ℕ) (r : Bool) → all_within 65 90 w ≡ true → (r ≡ true ↔ map to_ascii_lowercase s ≡ map to_ascii_lowercase w) → r ≡ is_word w s
+word_same w s r h k = same_test r (is_word w s) (λ t. lower_word w s h (k.0 t)) (λ t. k.1 (word_lower w s h t))
 
-    pub letter_on : capital_of (get_or s i 0) ≡ get_or w i 0 → is_word (drop i w) (drop i s) ≡ is_word (drop (i + 1) w) (drop (i + 1) s)
-    letter_on e = first_letter ∙ rw (eq-eqb (capital_of (get_or s i 0)) (get_or w i 0) e)
-
-    pub other_letter : (capital_of (get_or s i 0) ≡ get_or w i 0 → ⊥) → is_word (drop i w) (drop i s) ≡ false
-    other_letter e = first_letter ∙ rw (ne_eqb (capital_of (get_or s i 0)) (get_or w i 0) e)
-
-  pub word_end : length s ≤ i → is_word (drop i w) (drop i s) ≡ true
-  unfolding is_word
-  word_end l =
-      let l_word : length w ≤ i = omega (arith, same, l) in
-      rw (drop_of_length-le w l_word, drop_of_length-le s l)
+pub capitals : (all_within 65 90 (bytes_of "P") ≡ true) × (all_within 65 90 (bytes_of "S") ≡ true) × (all_within 65 90 (bytes_of "ASCII") ≡ true)
+unfolding all_within
+capitals = (refl, refl, refl)
 
 module _ (s : List ℕ) where
   pub is_primary : is_word (bytes_of "P") s ≡ true → is_primary_or_secondary s ≡ true
@@ -69,17 +67,3 @@ module _ (s : List ℕ) where
 
   pub is_secondary : is_word (bytes_of "P") s ≡ false → is_primary_or_secondary s ≡ is_word (bytes_of "S") s
   is_secondary e = rw e
-
-  pub is_nothing_law : length s ≡ 0 → is_number_or_nothing s ≡ true
-  is_nothing_law e = rw (eq-eqb (length s) 0 e)
-
-  pub is_something : (length s ≡ 0 → ⊥) → is_number_or_nothing s ≡ is_number s
-  is_something e = rw (ne_eqb (length s) 0 e)
-
--- ---- a field that the code reads
-
-pub readable_whole : (k : Field) (least most low high : ℕ) → k ≡ Whole least most low high → readable k ≡ true → most ≤ digit_limit
-readable_whole k least most low high e h = leb-true most digit_limit (sym (ap readable e) ∙ h)
-
-pub readable_decimal : (k : Field) (v : ℕ) → k ≡ Decimal v → readable k ≡ true → v < large_value
-readable_decimal k v e h = ltb-true v large_value (sym (ap readable e) ∙ h)

@@ -1,18 +1,20 @@
 -- A text from a place on, byte by byte: its first mark, its first spaces, and whether every byte is in a range.
 -- Assumes nothing.
 use mathlib.Core.Path.{◌≡◌, refl, sym, ap, ◌∙◌}
-use mathlib.Core.Bool.{Bool, true, false, cond, ◌&&◌, ◌||◌, or-true, false≢true}
+use mathlib.Core.Bool.{Bool, true, false, cond, not, ◌&&◌, ◌||◌, false≢true}
 use mathlib.Core.List.{List, [], ◌∷◌, ◌++◌}
 use Prim.Native.Nat.{ℕ, suc, ◌+◌, ◌-◌, ◌≤◌, ◌<◌}
 use native.Mathlib.Numerals.{add-one}
 use native.Mathlib.Omega.{arith}
 use lib.Dec.{eqb, ltb}
 use lib.ListN.{length, get_or, take, drop, length-take, length-drop, drop_of_length-le}
-use lib.Seq.{drop-cons, take-length}
-use borrow.Author.Tests.{eq-eqb, ne_eqb, lt-ltb, le-ltb, ltb-true}
+use lib.Seq.{take-length}
+use borrow.Author.Tests.{ne_eqb, lt-ltb, le-ltb, ltb-true, ltb-false}
+use Rattle.std.specs.Prelude.{Option, Some, None, unwrap_or}
+use Rattle.std.specs.List.{position_or_len, list_all}
 use Rattle.checks.specs.Range.{in_range}
 use Rattle.checks.proofs.Cases.{by_cond, same_test}
-use Rattle.checks.proofs.Tests.{both_true, in_range_law, below_range, above_range, is_in_range}
+use Rattle.checks.proofs.Tests.{both_true, in_range_law}
 use Rattle.text.specs.Number.{all_digits}
 use Rattle.text.specs.Line.{comma, into_first, fields_in}
 use Rattle.text.proofs.DigitLaws.{all_digits_nil, all_digits_cons}
@@ -27,9 +29,6 @@ suc_ltb a b =
     (λ t. lt-ltb a b (omega (arith, ltb-true (suc a) (suc b) t))) (λ t. lt-ltb (suc a) (suc b) (omega (arith, ltb-true a b t)))
 
 -- ---- a test after another
-
-pub refused_first : (a b : Bool) → a ≡ false → false ≡ a && b
-refused_first a b e = sym (rw e)
 
 pub passed_first : (a b r : Bool) → a ≡ true → r ≡ b → r ≡ a && b
 passed_first a b r e f = f ∙ sym (rw e)
@@ -78,18 +77,42 @@ module _ (m n : ℕ) where
       by_mark true e more = absurd (false≢true (sym e))
       by_mark false e more = more e
 
-  module _ (s : List ℕ) (i : ℕ) (k : i < length s) where
-    pub mark_here : is_mark m n (get_or s i 0) ≡ true → length (before m n (drop i s)) ≡ 0
-    unfolding before
-    mark_here e = rw (drop-cons s i 0 k, e)
+-- ---- the place of the first byte that passes a test, as the library finds it
 
-    pub mark_later : is_mark m n (get_or s i 0) ≡ false → length (before m n (drop i s)) ≡ suc (length (before m n (drop (i + 1) s)))
-    unfolding before
-    mark_later e = rw (drop-cons s i 0 k, e, add-one i)
+place_within : (p : ℕ → Bool) (s : List ℕ) → position_or_len p s ≤ length s
+place_within p [] = omega arith
+place_within p (b ∷ s) = by_first (p b) (place_within p s)
+  where
+    by_first : (t : Bool) → position_or_len p s ≤ length s → cond (not t) (1 + position_or_len p s) 0 ≤ suc (length s)
+    by_first true h = omega arith
+    by_first false h = omega arith
 
-  pub no_mark : (s : List ℕ) (i : ℕ) → length s ≤ i → length (before m n (drop i s)) ≡ 0
+module _ (p : ℕ → Bool) (s : List ℕ) (o : Option ℕ) (r : ℕ)
+    (e : o ≡ cond (ltb (position_or_len p s) (length s)) (Some (position_or_len p s)) None) (f : r ≡ unwrap_or o (length s)) where
+  first_place : r ≡ position_or_len p s
+  first_place = f ∙ ap (λ (x : Option ℕ). unwrap_or x (length s)) e ∙ by_place (ltb (position_or_len p s) (length s)) refl
+    where
+      by_place : (t : Bool) → ltb (position_or_len p s) (length s) ≡ t → unwrap_or (cond t (Some (position_or_len p s)) None) (length s) ≡ position_or_len p s
+      by_place true h = refl
+      by_place false h = omega (arith, place_within p s, ltb-false (position_or_len p s) (length s) h)
+
+module _ (m n : ℕ) where
+  before_place : (s : List ℕ) → length (before m n s) ≡ position_or_len (is_mark m n) s
   unfolding before
-  no_mark s i l = rw (drop_of_length-le s l)
+  before_place [] = refl
+  before_place (b ∷ s) = by_mark (is_mark m n b) (before_place s)
+    where
+      by_mark : (t : Bool) → length (before m n s) ≡ position_or_len (is_mark m n) s
+          → length (cond t [] (b ∷ before m n s)) ≡ cond (not t) (1 + position_or_len (is_mark m n) s) 0
+      by_mark true h = refl
+      by_mark false h = omega arith
+
+  pub mark_place : (s : List ℕ) (o : Option ℕ) (r : ℕ)
+      → o ≡ cond (ltb (position_or_len (is_mark m n) s) (length s)) (Some (position_or_len (is_mark m n) s)) None → r ≡ unwrap_or o (length s)
+      → MarkFound m n s r
+  mark_place s o r e f =
+      let place = first_place (is_mark m n) s o r e f in
+      record { counted = place ∙ sym (before_place s); within = omega (arith, place, place_within (is_mark m n) s) }
 
 -- what the code finds
 module _ (m n : ℕ) (s : List ℕ) (r : ℕ) (found : MarkFound m n s r) where
@@ -118,29 +141,27 @@ part_length s n h = rw length-take (omega (arith, h))
 pub tail_part : (s : List ℕ) (n : ℕ) → take (length s - n) (drop n s) ≡ drop n s
 tail_part s n = rw (← length-drop n s) (take-length (drop n s))
 
-pub is_first : (m n b : ℕ) → b ≡ m → is_mark m n b ≡ true
-is_first m n b e = rw (eq-eqb b m e)
-
-pub is_second : (m n b : ℕ) → b ≡ n → is_mark m n b ≡ true
-is_second m n b e = rw (eq-eqb b n e, or-true (eqb b m))
-
-pub is_none : (m n b : ℕ) → (b ≡ m → ⊥) → (b ≡ n → ⊥) → is_mark m n b ≡ false
-is_none m n b e f = rw (ne_eqb b m e, ne_eqb b n f)
-
 -- ---- spaces and signs in front
 
-module _ (s : List ℕ) (i : ℕ) (k : i < length s) where
-  pub space_here : get_or s i 0 ≡ space → unspaced (drop i s) ≡ unspaced (drop (i + 1) s)
-  unfolding unspaced
-  space_here e = rw (drop-cons s i 0 k, eq-eqb (get_or s i 0) space e, add-one i)
+abbrev pub no_space : ℕ → Bool
+no_space b = not (eqb b space)
 
-  pub no_space_here : (get_or s i 0 ≡ space → ⊥) → unspaced (drop i s) ≡ drop i s
-  unfolding unspaced
-  no_space_here e = rw (drop-cons s i 0 k, ne_eqb (get_or s i 0) space e)
-
-pub nothing_spaced : (s : List ℕ) (i : ℕ) → length s ≤ i → unspaced (drop i s) ≡ drop i s
+unspaced_at : (s : List ℕ) → drop (position_or_len no_space s) s ≡ unspaced s
 unfolding unspaced
-nothing_spaced s i l = rw (drop_of_length-le s l)
+unspaced_at [] = refl
+unspaced_at (b ∷ s) = by_space (eqb b space) (unspaced_at s)
+  where
+    by_space : (t : Bool) → drop (position_or_len no_space s) s ≡ unspaced s
+        → drop (cond (not (not t)) (1 + position_or_len no_space s) 0) (b ∷ s) ≡ cond t (unspaced s) (b ∷ s)
+    by_space true h = let e : 1 + position_or_len no_space s ≡ suc (position_or_len no_space s) = omega arith in rw e h
+    by_space false h = refl
+
+pub space_place : (s : List ℕ) (o : Option ℕ) (r : ℕ)
+    → o ≡ cond (ltb (position_or_len no_space s) (length s)) (Some (position_or_len no_space s)) None → r ≡ unwrap_or o (length s)
+    → Leads s (unspaced s) r
+space_place s o r e f =
+    let place = first_place no_space s o r e f in
+    record { within = omega (arith, place, place_within no_space s); left = rw place (unspaced_at s) }
 
 pub nothing_begins : (m : ℕ) (s : List ℕ) → length s ≡ 0 → begins_with m s ≡ false
 unfolding begins_with
@@ -153,40 +174,22 @@ begins_by_first m [] e = absurd (omega arith)
 begins_by_first m (b ∷ s) e = refl
 
 module _ (m n : ℕ) where
-  pub first_unmarked : (s : List ℕ) → begins_with m s ≡ true → Leads s (unmarked m n s) 1
-  unfolding begins_with unmarked
-  first_unmarked [] h = absurd (false≢true h)
-  first_unmarked (b ∷ s) h = record { within = omega arith; left = rw h }
+  pub mark_first : (s : List ℕ) → 0 < length s → is_mark m n (get_or s 0 0) ≡ true → Leads s (unmarked m n s) 1
+  unfolding unmarked
+  mark_first [] h e = absurd (omega arith)
+  mark_first (b ∷ s) h e = record { within = omega arith; left = rw e }
 
-  pub second_unmarked : (s : List ℕ) → begins_with n s ≡ true → Leads s (unmarked m n s) 1
-  unfolding begins_with unmarked
-  second_unmarked [] h = absurd (false≢true h)
-  second_unmarked (b ∷ s) h = record { within = omega arith; left = rw (h, or-true (eqb b m)) }
-
-  pub not_unmarked : (s : List ℕ) → begins_with m s ≡ false → begins_with n s ≡ false → Leads s (unmarked m n s) 0
-  unfolding begins_with unmarked
-  not_unmarked [] h k = record { within = omega arith; left = refl }
-  not_unmarked (b ∷ s) h k = record { within = omega arith; left = rw (h, k) }
+  pub no_mark_first : (s : List ℕ) → (0 < length s → is_mark m n (get_or s 0 0) ≡ false) → Leads s (unmarked m n s) 0
+  unfolding unmarked
+  no_mark_first [] h = record { within = omega arith; left = refl }
+  no_mark_first (b ∷ s) h = record { within = omega arith; left = let e = h (omega arith) in rw e }
 
 -- ---- every byte in a range
 
-module _ (low high : ℕ) where
-  module _ (s : List ℕ) (i : ℕ) (k : i < length s) where
-    pub within_on : low ≤ get_or s i 0 → get_or s i 0 ≤ high → all_within low high (drop i s) ≡ all_within low high (drop (i + 1) s)
-    unfolding all_within
-    within_on a b = rw (drop-cons s i 0 k, is_in_range low high (get_or s i 0) a b, add-one i)
-
-    pub too_low : get_or s i 0 < low → all_within low high (drop i s) ≡ false
-    unfolding all_within
-    too_low a = rw (drop-cons s i 0 k, below_range low high (get_or s i 0) a)
-
-    pub too_high : high < get_or s i 0 → all_within low high (drop i s) ≡ false
-    unfolding all_within
-    too_high a = rw (drop-cons s i 0 k, above_range low high (get_or s i 0) a)
-
-  pub within_end : (s : List ℕ) (i : ℕ) → length s ≤ i → all_within low high (drop i s) ≡ true
-  unfolding all_within
-  within_end s i l = rw (drop_of_length-le s l)
+pub all_in_range : (low high : ℕ) (s : List ℕ) → list_all (in_range low high) s ≡ all_within low high s
+unfolding all_within
+all_in_range low high [] = refl
+all_in_range low high (b ∷ s) = ap (λ (t : Bool). in_range low high b && t) (all_in_range low high s)
 
 pub digits_within : (s : List ℕ) → all_within 48 57 s ≡ all_digits s
 unfolding all_within

@@ -6,18 +6,20 @@ use mathlib.Core.List.{List}
 use Prim.Native.Nat.{ℕ, ◌+◌, ◌≤◌, ◌<◌, min}
 use native.Mathlib.Omega.{arith}
 use lib.Dec.{eqb, leb}
-use lib.ListN.{length, take, drop, length-drop}
+use lib.ListN.{length, take, drop}
 use borrow.Author.Tests.{eq-eqb, ne_eqb, eqb-true, le-leb, lt-leb}
+use Rattle.std.specs.Prelude.{Option, Some, None, option_copied, MatchOption}
+use Rattle.std.specs.Borrow.{Bor}
 use Rattle.checks.specs.Range.{in_range}
 use Rattle.checks.proofs.Cases.{same_test}
-use Rattle.checks.proofs.Tests.{both_true, below_range}
+use Rattle.checks.proofs.Tests.{both_true}
 use Rattle.text.specs.Number.{all_digits, leading, value_of}
 use Rattle.text.proofs.DigitLaws.{all_digits_nil, all_leading, leading_all, value_nothing}
 use Rattle.text.proofs.ValueLaws.{whole_worth}
-use Rattle.fields.specs.Marks.{has, before, after, begins_with}
-use Rattle.fields.specs.Number.{is_whole, minus, point, sign_fits, some_digits, is_of_value, is_nothing, whole_then, optionally, is_unsigned_decimal}
-use Rattle.fields.specs.device.Calls.{MarkFound, whole_lead, WholeLeads, large_value}
-use Rattle.fields.proofs.MarkLaws.{front, rest as m_rest, marked, markless, nothing_after, after_none, after_dropped}
+use Rattle.fields.specs.Marks.{has, before, after}
+use Rattle.fields.specs.Number.{is_whole, point, some_digits, is_of_value, whole_then, optionally, is_unsigned_decimal}
+use Rattle.fields.specs.device.Calls.{MarkFound, WholeLeads, large_value}
+use Rattle.fields.proofs.MarkLaws.{front, rest as m_rest, marked, markless, nothing_after, after_none}
 
 -- ---- a whole number
 
@@ -45,62 +47,46 @@ module _ (least most low high : ℕ) (s : List ℕ) where
       pub whole_short : count < least → false ≡ is_whole least most low high s
       whole_short h = sym (all_read ∙ rw (lt-leb least count h))
 
-      pub whole_low : value < low → false ≡ is_whole least most low high s
-      whole_low h = sym (all_read ∙ rw (below_range low high value h, and-false (leb least count)))
-
-      pub whole_else : least ≤ count → low ≤ value → leb value high ≡ is_whole least most low high s
-      whole_else h k = sym (all_read ∙ rw (le-leb least count h, le-leb low value k))
+      pub whole_here : least ≤ count → in_range low high value ≡ is_whole least most low high s
+      whole_here h = sym (all_read ∙ rw (le-leb least count h))
 
 -- ---- a whole number up to a mark
 
-by_none : (x y r : Bool) (k : ℕ) → cond (x && y) (k + 1) 0 ≡ 0 → x && (y && r) ≡ false
-by_none true true r k e = absurd (omega arith)
-by_none true false r k e = refl
-by_none false y r k e = refl
-
-by_some : (x y r : Bool) (k : ℕ) → (cond (x && y) (k + 1) 0 ≡ 0 → ⊥) → (cond (x && y) (k + 1) 0 ≡ k + 1) × (x && (y && r) ≡ r)
-by_some true true r k e = (refl, refl)
-by_some true false r k e = absurd (e refl)
-by_some false y r k e = absurd (e refl)
+some_same : (a b : List ℕ) → ◌≡◌ {A = Option (List ℕ)} (Some a) (Some b) → a ≡ b
+some_same a b f = cc
 
 module _ (mark least most low high : ℕ) (s : List ℕ) where
-  abbrev marks : Bool
-  marks = has mark mark s
-
-  abbrev wholes : Bool
-  wholes = is_whole least most low high (before mark mark s)
+  abbrev leads : Bool
+  leads = has mark mark s && is_whole least most low high (before mark mark s)
 
   -- as the code makes it, from the bytes that stand before the mark
   module _ (n : ℕ) (found : MarkFound mark mark s n) where
-    pub unmarked_leads : n ≡ length s → WholeLeads mark least most low high s 0
-    unmarked_leads e = record { placed = rw (markless mark mark s n found e); within = omega arith }
+    pub unmarked_leads : n ≡ length s → leads ≡ false
+    unmarked_leads e = rw (markless mark mark s n found e)
 
-    module _ (more : n ≡ length s → ⊥) (t : Bool) (e : t ≡ is_whole least most low high (take n s)) where
-      lead_is : whole_lead mark least most low high s ≡ cond t (n + 1) 0
-      lead_is = rw (marked mark mark s n found more, e, front mark mark s n found, found.counted)
+    pub whole_leads : (n ≡ length s → ⊥) → leads ≡ is_whole least most low high (take n s)
+    whole_leads more = rw (marked mark mark s n found more, front mark mark s n found)
 
-      pub whole_leads : t ≡ true → WholeLeads mark least most low high s (n + 1)
-      whole_leads f = record { placed = sym (lead_is ∙ rw f); within = omega (arith, more, found.within) }
-
-      pub none_leads : t ≡ false → WholeLeads mark least most low high s 0
-      none_leads f = record { placed = sym (lead_is ∙ rw f); within = omega arith }
+  pub leads_with : (t : Bool) → leads ≡ t → (o : Option (Bor (List ℕ))) → option_copied o ≡ cond t (Some (after mark mark s)) None
+      → WholeLeads mark least most low high s o
+  leads_with t e o f = record { told = f ∙ sym (ap (λ (u : Bool). cond u (Some (after mark mark s)) None) e) }
 
   -- and what it tells of the whole
-  module _ (rest : List ℕ → Bool) (n : ℕ) (leads : WholeLeads mark least most low high s n) where
-    pub none_then : n ≡ 0 → false ≡ whole_then mark least most low high rest s
-    none_then e = sym (by_none marks wholes (rest (after mark mark s)) (length (before mark mark s)) (sym leads.placed ∙ e))
+  module _ (rest : List ℕ → Bool) where
+    split : (x y r : Bool) → x && (y && r) ≡ (x && y) && r
+    split true y r = refl
+    split false y r = refl
 
-    pub then_rest : (n ≡ 0 → ⊥) → rest (drop n s) ≡ whole_then mark least most low high rest s
-    then_rest h =
-        let b = by_some marks wholes (rest (after mark mark s)) (length (before mark mark s)) (λ e. h (leads.placed ∙ e)) in
-        ap rest (ap (λ (k : ℕ). drop k s) (leads.placed ∙ b.0) ∙ after_dropped mark mark s) ∙ sym b.1
-
--- nothing is left after all of it
-pub nothing_left : (s : List ℕ) (n : ℕ) → n ≤ length s → eqb n (length s) ≡ is_nothing (drop n s)
-nothing_left s n h =
-    same_test (eqb n (length s)) (is_nothing (drop n s))
-    (λ t. eq-eqb (length (drop n s)) 0 (rw length-drop (omega (arith, eqb-true n (length s) t))))
-    (λ t. let z = rw length-drop at (eqb-true (length (drop n s)) 0 t) in eq-eqb n (length s) (omega (arith, z, h)))
+    pub then_rest : (o : Option (Bor (List ℕ))) (r : Bool) → WholeLeads mark least most low high s o → MatchOption o (r ≡ false) (λ x. r ≡ rest x.now)
+        → r ≡ whole_then mark least most low high rest s
+    then_rest o r h e = by_leads leads o h.told e ∙ sym (split (has mark mark s) (is_whole least most low high (before mark mark s)) (rest (after mark mark s)))
+      where
+        by_leads : (t : Bool) (o : Option (Bor (List ℕ))) → option_copied o ≡ cond t (Some (after mark mark s)) None → MatchOption o (r ≡ false) (λ x. r ≡ rest x.now)
+            → r ≡ t && rest (after mark mark s)
+        by_leads true (Some x) f e = e ∙ ap rest (some_same x.now (after mark mark s) f)
+        by_leads true None f e = cc
+        by_leads false (Some x) f e = cc
+        by_leads false None f e = e
 
 -- a text of digits that are few enough
 pub whole_leading : (least most low high : ℕ) (s : List ℕ) → is_whole least most low high s ≡ true → leading most s ≡ s
@@ -115,20 +101,10 @@ same_capped x v h =
     same_test (eqb x v) (eqb (min x large_value) v)
     (λ t. eq-eqb (min x large_value) v (omega (arith, eqb-true x v t))) (λ t. eq-eqb x v (omega (arith, eqb-true (min x large_value) v t)))
 
--- ---- digits alone, and a sign
-
-pub no_digits : (s : List ℕ) → length s ≡ 0 → some_digits s ≡ false
-no_digits s e = rw e
+-- ---- digits alone
 
 pub some_all_digits : (s : List ℕ) → 1 ≤ length s → some_digits s ≡ all_digits s
 some_all_digits s h = rw (le-leb 1 (length s) h)
-
-module _ (v : ℕ) (s : List ℕ) where
-  pub minus_fits : begins_with minus s ≡ true → sign_fits v s ≡ eqb v 0
-  minus_fits e = rw e
-
-  pub no_minus_fits : begins_with minus s ≡ false → sign_fits v s ≡ true
-  no_minus_fits e = rw e
 
 -- ---- what stands before a mark, and optionally the mark and what stands after it
 

@@ -1,11 +1,12 @@
 // The sorts of fields, and whether bytes are such a field.
 ghost use Rattle.std.specs.Prelude.{◌≡◌, true};
 ghost use Rattle.fields.specs.Number.{is_number_or_nothing};
-ghost use Rattle.fields.specs.Field.{capital_of, is_word, is_primary_or_secondary};
+ghost use Rattle.fields.specs.Field.{is_primary_or_secondary};
 ghost use Rattle.fields.specs.Field.{is_month_and_year, is_date, is_seconds, is_minutes, is_time, fits_field};
 ghost use Rattle.fields.specs.device.Calls.{readable};
 
 use crate::marks::spaces;
+pub use crate::number::Whole;
 use crate::number::{after_whole, is_channels, is_decimal_of, is_extreme, is_number, is_whole};
 
 // What a field must be.
@@ -13,8 +14,7 @@ use crate::number::{after_whole, is_channels, is_decimal_of, is_extreme, is_numb
 pub enum Field {
     // so many bytes
     Text(usize, usize),
-    // so many digits, and a value from one number to another
-    Whole(usize, usize, u64, u64),
+    Whole(Whole),
     // so many channels, and the letter of their sort
     Channels(u64, u8),
     // a decimal of this value
@@ -30,103 +30,91 @@ pub enum Field {
     Time,
 }
 
-fn capital_of(b: u8) -> u8
-    ensures { result ≡ capital_of b }
-{
-    if b < b'a' {
-        return b;
-    }
-    if b'z' < b {
-        return b;
-    }
-    b - 32
-}
+const DAY: Whole = Whole {
+    least: 1,
+    most: 2,
+    low: 1,
+    high: 31,
+};
 
-// The word, which is written in capitals, in any case of letters.
-fn is_word(s: &[u8], word: &[u8]) -> bool
-    ensures { result ≡ is_word word.now s.now }
-{
-    if s.len() != word.len() {
-        return false;
-    }
-    let mut i = 0;
-    while i < s.len() {
-        if capital_of(s[i]) != word[i] {
-            return false;
-        }
-        i += 1;
-    }
-    true
-}
+const MONTH: Whole = Whole {
+    least: 1,
+    most: 2,
+    low: 1,
+    high: 12,
+};
+
+const YEAR: Whole = Whole {
+    least: 4,
+    most: 4,
+    low: 1900,
+    high: 9999,
+};
+
+const HOUR: Whole = Whole {
+    least: 2,
+    most: 2,
+    low: 0,
+    high: 23,
+};
+
+// Of minutes and seconds.
+const SIXTIETH: Whole = Whole {
+    least: 2,
+    most: 2,
+    low: 0,
+    high: 59,
+};
+
+const MICROSECONDS: Whole = Whole {
+    least: 6,
+    most: 6,
+    low: 0,
+    high: 999999,
+};
 
 fn is_month_and_year(s: &[u8]) -> bool
     ensures { result ≡ is_month_and_year s.now }
 {
-    let n = after_whole(s, b'/', 1, 2, 1, 12);
-    if n == 0 {
-        return false;
-    }
-    is_whole(&s[n..], 4, 4, 1900, 9999)
+    after_whole(s, MONTH, b'/').is_some_and(|year| is_whole(year, YEAR))
 }
 
 // dd/mm/yyyy, from the year 1900 on.
 fn is_date(s: &[u8]) -> bool
     ensures { result ≡ is_date s.now }
 {
-    let n = after_whole(s, b'/', 1, 2, 1, 31);
-    if n == 0 {
-        return false;
-    }
-    is_month_and_year(&s[n..])
+    after_whole(s, DAY, b'/').is_some_and(is_month_and_year)
 }
 
 fn is_seconds(s: &[u8]) -> bool
     ensures { result ≡ is_seconds s.now }
 {
-    let n = after_whole(s, b'.', 2, 2, 0, 59);
-    if n == 0 {
-        return false;
-    }
-    is_whole(&s[n..], 6, 6, 0, 999999)
+    after_whole(s, SIXTIETH, b'.').is_some_and(|parts| is_whole(parts, MICROSECONDS))
 }
 
 fn is_minutes(s: &[u8]) -> bool
     ensures { result ≡ is_minutes s.now }
 {
-    let n = after_whole(s, b':', 2, 2, 0, 59);
-    if n == 0 {
-        return false;
-    }
-    is_seconds(&s[n..])
+    after_whole(s, SIXTIETH, b':').is_some_and(is_seconds)
 }
 
 // hh:mm:ss.ssssss
 fn is_time(s: &[u8]) -> bool
     ensures { result ≡ is_time s.now }
 {
-    let n = after_whole(s, b':', 2, 2, 0, 23);
-    if n == 0 {
-        return false;
-    }
-    is_minutes(&s[n..])
+    after_whole(s, HOUR, b':').is_some_and(is_minutes)
 }
 
 fn is_number_or_nothing(s: &[u8]) -> bool
     ensures { result ≡ is_number_or_nothing s.now }
 {
-    if s.len() == 0 {
-        return true;
-    }
-    is_number(s)
+    s.is_empty() || is_number(s)
 }
 
 fn is_primary_or_secondary(s: &[u8]) -> bool
     ensures { result ≡ is_primary_or_secondary s.now }
 {
-    if is_word(s, b"P") {
-        return true;
-    }
-    is_word(s, b"S")
+    s.eq_ignore_ascii_case(b"P") || s.eq_ignore_ascii_case(b"S")
 }
 
 // Whether the bytes between two commas are such a field. But for a text, it may begin with spaces.
@@ -134,18 +122,17 @@ pub fn fits(field: Field, s: &[u8]) -> bool
     requires { readable field ≡ true }
     ensures { result ≡ fits_field field s.now }
 {
-    let n = spaces(s);
-    let t = &s[n..];
+    let t = &s[spaces(s)..];
     match field {
         Field::Text(least, most) => (least <= s.len()) & (s.len() <= most),
-        Field::Whole(least, most, low, high) => is_whole(t, least, most, low, high),
+        Field::Whole(whole) => is_whole(t, whole),
         Field::Channels(value, letter) => is_channels(t, value, letter),
         Field::Decimal(value) => is_decimal_of(t, value),
         Field::Number => is_number(t),
         Field::NumberOrNothing => is_number_or_nothing(t),
         Field::Extreme => is_extreme(t),
         Field::PrimaryOrSecondary => is_primary_or_secondary(t),
-        Field::Ascii => is_word(t, b"ASCII"),
+        Field::Ascii => t.eq_ignore_ascii_case(b"ASCII"),
         Field::Date => is_date(t),
         Field::Time => is_time(t),
     }

@@ -7,70 +7,35 @@ ghost use Rattle.fields.specs.device.Calls.{Leads, MarkFound};
 pub fn until(s: &[u8], m: u8, n: u8) -> usize
     ensures { MarkFound m n s.now result }
 {
-    let mut i = 0;
-    while i < s.len() {
-        let b = s[i];
-        if b == m {
-            return i;
-        }
-        if b == n {
-            return i;
-        }
-        i += 1;
-    }
-    i
+    s.iter().position(|b| *b == m || *b == n).unwrap_or(s.len())
 }
 
 // How many spaces a text begins with.
 pub fn spaces(s: &[u8]) -> usize
     ensures { Leads s.now (unspaced s.now) result }
 {
-    let mut i = 0;
-    while i < s.len() {
-        if s[i] != b' ' {
-            return i;
-        }
-        i += 1;
-    }
-    i
+    s.iter().position(|b| *b != b' ').unwrap_or(s.len())
 }
 
 pub(crate) fn begins_with(s: &[u8], m: u8) -> bool
     ensures { result ≡ begins_with m s.now }
 {
-    if s.len() == 0 {
-        return false;
-    }
-    s[0] == m
+    matches!(s, [b, ..] if *b == m)
 }
 
 // 1 where a text begins with one of two marks, else 0.
 pub(crate) fn mark_length(s: &[u8], m: u8, n: u8) -> usize
     ensures { Leads s.now (unmarked m n s.now) result }
 {
-    if begins_with(s, m) {
-        return 1;
+    match s {
+        [b, ..] if *b == m || *b == n => 1,
+        _ => 0,
     }
-    if begins_with(s, n) {
-        return 1;
-    }
-    0
 }
 
 // Whether every byte is in a range.
 pub fn all_within(s: &[u8], low: u8, high: u8) -> bool
     ensures { result ≡ all_within low high s.now }
 {
-    let mut i = 0;
-    while i < s.len() {
-        let b = s[i];
-        if b < low {
-            return false;
-        }
-        if high < b {
-            return false;
-        }
-        i += 1;
-    }
-    true
+    s.iter().all(|b| (low..=high).contains(b))
 }

@@ -1,5 +1,5 @@
 // Whole numbers, decimals and numbers with an exponent.
-ghost use Rattle.std.specs.Prelude.{◌≡◌, true, ◌-◌, ◌≤◌, ◌<◌, min};
+ghost use Rattle.std.specs.Prelude.{◌≡◌, true, ◌≤◌, ◌<◌, min};
 ghost use Rattle.text.specs.Number.{value_of, digit_limit};
 ghost use Rattle.fields.specs.Number.{is_whole, is_channels, is_extreme, some_digits, is_exponent, is_unsigned_decimal, is_decimal};
 ghost use Rattle.fields.specs.Number.{is_of_value, sign_fits, is_decimal_of, is_number};
@@ -14,100 +14,79 @@ const LONGEST_NUMBER: usize = 32;
 // No decimal that is asked for has such a value.
 const LARGE: u64 = 1001;
 
-// So many digits, of a value in a range.
-pub(crate) fn is_whole(s: &[u8], least: usize, most: usize, low: u64, high: u64) -> bool
-    requires { most ≤ digit_limit }
-    ensures { result ≡ is_whole least most low high s.now }
-{
-    let d = read_digits(s, 0, most);
-    if d.count != s.len() {
-        return false;
-    }
-    if d.count < least {
-        return false;
-    }
-    if d.value < low {
-        return false;
-    }
-    d.value <= high
+// The digits of a sample.
+const SAMPLE: Whole = Whole {
+    least: 1,
+    most: 7,
+    low: 0,
+    high: 9999999,
+};
+
+// So many digits, and a value from one number to another.
+#[derive(Clone, Copy)]
+pub struct Whole {
+    pub least: usize,
+    pub most: usize,
+    pub low: u64,
+    pub high: u64,
 }
 
-// The place after a whole number and the mark that closes it; 0 where there is none.
-pub(crate) fn after_whole(
-    s: &[u8],
-    mark: u8,
-    least: usize,
-    most: usize,
-    low: u64,
-    high: u64,
-) -> usize
-    requires { most ≤ digit_limit }
-    ensures { WholeLeads mark least most low high s.now result }
+pub(crate) fn is_whole(s: &[u8], whole: Whole) -> bool
+    requires { whole.most ≤ digit_limit }
+    ensures { result ≡ is_whole whole.least whole.most whole.low whole.high s.now }
+{
+    let d = read_digits(s, 0, whole.most);
+    d.count == s.len() && whole.least <= d.count && (whole.low..=whole.high).contains(&d.value)
+}
+
+// What stands after a whole number and the mark that closes it.
+pub(crate) fn after_whole(s: &[u8], whole: Whole, mark: u8) -> Option<&[u8]>
+    requires { whole.most ≤ digit_limit }
+    ensures { WholeLeads mark whole.least whole.most whole.low whole.high s.now result }
 {
     let n = until(s, mark, mark);
-    if n == s.len() {
-        return 0;
+    if n < s.len() && is_whole(&s[..n], whole) {
+        Some(&s[n + 1..])
+    } else {
+        None
     }
-    if is_whole(&s[..n], least, most, low, high) {
-        return n + 1;
-    }
-    0
 }
 
 // So many channels, and the letter of their sort.
 pub(crate) fn is_channels(s: &[u8], value: u64, letter: u8) -> bool
     ensures { result ≡ is_channels value letter s.now }
 {
-    let n = after_whole(s, letter, 1, 6, value, value);
-    if n == 0 {
-        return false;
-    }
-    n == s.len()
+    let whole = Whole {
+        least: 1,
+        most: 6,
+        low: value,
+        high: value,
+    };
+    after_whole(s, whole, letter).is_some_and(|rest| rest.is_empty())
 }
 
 // The least or the greatest sample.
 pub(crate) fn is_extreme(s: &[u8]) -> bool
     ensures { result ≡ is_extreme s.now }
 {
-    let n = mark_length(s, b'-', b'-');
-    is_whole(&s[n..], 1, 7, 0, 9999999)
+    is_whole(&s[mark_length(s, b'-', b'-')..], SAMPLE)
 }
 
 fn some_digits(s: &[u8]) -> bool
     ensures { result ≡ some_digits s.now }
 {
-    if s.len() == 0 {
-        return false;
-    }
-    all_within(s, b'0', b'9')
-}
-
-fn digit_of(b: u8) -> u64
-    ensures { (result ≡ b - 48) × (result ≤ 255) }
-{
-    if b < b'0' {
-        return 0;
-    }
-    (b - b'0') as u64
-}
-
-fn capped(v: u64) -> u64
-    ensures { result ≡ min v large_value }
-{
-    if v < LARGE { v } else { LARGE }
+    !s.is_empty() && all_within(s, b'0', b'9')
 }
 
 // The value of digits, as far as LARGE.
 fn value_to_large(s: &[u8]) -> u64
     ensures { result ≡ min (value_of s.now) large_value }
 {
-    let mut v: u64 = 0;
-    let mut i = 0;
-    while i < s.len() {
-        v = capped(v * 10 + digit_of(s[i]));
-        i += 1;
+    let mut value = 0;
+    for b in s {
+        value = (value * 10 + u64::from(b.saturating_sub(b'0'))).min(LARGE);
     }
-    v
+    value
 }
 
 // A decimal without its sign.
@@ -115,20 +94,13 @@ fn is_unsigned_decimal(s: &[u8]) -> bool
     ensures { result ≡ is_unsigned_decimal s.now }
 {
     let n = until(s, b'.', b'.');
-    if !some_digits(&s[..n]) {
-        return false;
-    }
-    if n == s.len() {
-        return true;
-    }
-    some_digits(&s[n + 1..])
+    some_digits(&s[..n]) && (n == s.len() || some_digits(&s[n + 1..]))
 }
 
 fn is_decimal(s: &[u8]) -> bool
     ensures { result ≡ is_decimal s.now }
 {
-    let n = mark_length(s, b'+', b'-');
-    is_unsigned_decimal(&s[n..])
+    is_unsigned_decimal(&s[mark_length(s, b'+', b'-')..])
 }
 
 // Whether a decimal without its sign has this value.
@@ -137,22 +109,13 @@ fn is_of_value(s: &[u8], v: u64) -> bool
     ensures { result ≡ is_of_value v s.now }
 {
     let n = until(s, b'.', b'.');
-    if value_to_large(&s[..n]) != v {
-        return false;
-    }
-    if n == s.len() {
-        return true;
-    }
-    value_to_large(&s[n + 1..]) == 0
+    value_to_large(&s[..n]) == v && (n == s.len() || value_to_large(&s[n + 1..]) == 0)
 }
 
 fn sign_fits(s: &[u8], v: u64) -> bool
     ensures { result ≡ sign_fits v s.now }
 {
-    if begins_with(s, b'-') {
-        return v == 0;
-    }
-    true
+    v == 0 || !begins_with(s, b'-')
 }
 
 // A decimal of this value.
@@ -166,19 +129,14 @@ pub(crate) fn is_decimal_of(s: &[u8], v: u64) -> bool
     if !sign_fits(s, v) {
         return false;
     }
-    if !is_decimal(s) {
-        return false;
-    }
-    let n = mark_length(s, b'+', b'-');
-    is_of_value(&s[n..], v)
+    is_decimal(s) && is_of_value(&s[mark_length(s, b'+', b'-')..], v)
 }
 
 // The digits of an exponent.
 fn is_exponent(s: &[u8]) -> bool
     ensures { result ≡ is_exponent s.now }
 {
-    let n = mark_length(s, b'+', b'-');
-    some_digits(&s[n..])
+    some_digits(&s[mark_length(s, b'+', b'-')..])
 }
 
 // A decimal, with or without an exponent.
@@ -189,11 +147,5 @@ pub(crate) fn is_number(s: &[u8]) -> bool
         return false;
     }
     let n = until(s, b'e', b'E');
-    if !is_decimal(&s[..n]) {
-        return false;
-    }
-    if n == s.len() {
-        return true;
-    }
-    is_exponent(&s[n + 1..])
+    is_decimal(&s[..n]) && (n == s.len() || is_exponent(&s[n + 1..]))
 }

@@ -13,9 +13,3 @@ all_readable (k ∷ ks) = readable k && all_readable ks
 pub record FieldEnds (s : List ℕ) (at end : ℕ) : Type 0 where
   pub ended : end ≡ at + length (before comma comma (drop at s))
   pub within : end ≤ length s
-
--- a field that the code reads, from one place of a text to another
-pub record PartOf (field : Field) (s : List ℕ) (at end : ℕ) : Type 0 where
-  pub fit : readable field ≡ true
-  pub begins : at ≤ end
-  pub within : end ≤ length s

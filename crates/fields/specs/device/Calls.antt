@@ -1,10 +1,11 @@
 -- A device of code and proofs: what the functions of the crate hand on, each fact by its name.
-use Rattle.std.specs.Prelude.{◌≡◌, Bool, true, cond, ◌&&◌, List, ℕ, ◌+◌, ◌≤◌, leb, ltb, length, drop}
+use Rattle.std.specs.Prelude.{◌≡◌, Bool, true, cond, ◌&&◌, List, ℕ, ◌≤◌, leb, ltb, length, drop, Option, Some, None, option_copied}
+use Rattle.std.specs.Borrow.{Bor}
 use Rattle.text.specs.Number.{digit_limit}
 use Rattle.fields.specs.declared.field.Field.{Field}
 use Rattle.fields.specs.declared.field.Field.TheVariants.{Text, Whole, Channels, Decimal, Number, NumberOrNothing}
 use Rattle.fields.specs.declared.field.Field.TheVariants.{Extreme, PrimaryOrSecondary, Ascii, Date, Time}
-use Rattle.fields.specs.Marks.{has, before}
+use Rattle.fields.specs.Marks.{has, before, after}
 use Rattle.fields.specs.Number.{is_whole}
 
 -- what is left of a text after so many bytes
@@ -17,14 +18,10 @@ pub record MarkFound (m n : ℕ) (s : List ℕ) (count : ℕ) : Type 0 where
   pub counted : count ≡ length (before m n s)
   pub within : count ≤ length s
 
--- the place after a whole number and the mark that closes it; 0 where there is none
-abbrev pub whole_lead : ℕ → ℕ → ℕ → ℕ → ℕ → List ℕ → ℕ
-whole_lead mark least most low high s =
-    cond (has mark mark s && is_whole least most low high (before mark mark s)) (length (before mark mark s) + 1) 0
-
-pub record WholeLeads (mark least most low high : ℕ) (s : List ℕ) (place : ℕ) : Type 0 where
-  pub placed : place ≡ whole_lead mark least most low high s
-  pub within : place ≤ length s
+-- a whole number and the mark that closes it stand first, and this is what stands after them; none where they don't
+pub record WholeLeads (mark least most low high : ℕ) (s : List ℕ) (rest : Option (Bor (List ℕ))) : Type 0 where
+  pub told : option_copied rest
+      ≡ cond (has mark mark s && is_whole least most low high (before mark mark s)) (Some (after mark mark s)) None
 
 -- no decimal that is asked for has such a value
 abbrev pub large_value : ℕ
@@ -33,7 +30,7 @@ large_value = 1001
 -- the fields that the code reads: their digits and values fit in its numbers
 abbrev pub readable : Field → Bool
 readable (Text least most) = true
-readable (Whole least most low high) = leb most digit_limit
+readable (Whole w) = leb w.most digit_limit
 readable (Channels value letter) = true
 readable (Decimal value) = ltb value large_value
 readable Number = true

@@ -1,46 +1,39 @@
 -- `config::line::is_right_at` meets its contract: test by test.
 -- Assumes nothing.
-use mathlib.Core.Path.{sym, ◌∙◌}
-use Prim.Native.Nat.{◌-◌}
+use mathlib.Core.Path.{◌≡◌, sym, ◌∙◌}
+use mathlib.Core.Bool.{true, false}
 use native.Mathlib.Omega.{arith}
-use lib.ListN.{length}
-use Rattle.checks.proofs.Tests.{in_range_law}
-use Rattle.config.specs.Shape.{line_count}
-use Rattle.text.proofs.ShapeLaws.{ends_long}
-use Rattle.config.proofs.LineLaws.{not_due, due_line, line_too_long, line_open, line_closed}
-use Rattle.fields.proofs.MarkLaws.{part_length}
+use Rattle.std.proofs.lemmas.Bool.Decides.{nat_tests}
+use Rattle.text.specs.Line.{ends_cr_lf}
+use Rattle.text.proofs.CutLaws.{cr_lf_at, cr_lf_none}
+use Rattle.config.proofs.LineLaws.{due_line, line_too_long, line_open, line_closed}
 use Rattle.config.proofs.line.is_right_at.Goals as goal
-
-pub returns-then-not-in_range : goal.returns-then-not-in_range
-returns-then-not-in_range c = not_due c.args.line c.args.l.now (sym c.in_range.ensures ∙ c.if-not-in_range.true)
 
 pub returns-then-l-gt-LONGEST_LINE : goal.returns-then-l-gt-LONGEST_LINE
 returns-then-l-gt-LONGEST_LINE c =
     let a = c.args in
     due_line a.line a.l.now (sym c.in_range.ensures ∙ c.if-not-in_range.false) _ (line_too_long _ a.l.now c.if-l-gt-LONGEST_LINE.true)
 
-pub returns-then-not-ends_cr_lf : goal.returns-then-not-ends_cr_lf
-returns-then-not-ends_cr_lf c =
+pub returns-in-13 : goal.returns-in-13
+returns-in-13 c =
     let a = c.args in
-    due_line a.line a.l.now (sym c.in_range.ensures ∙ c.if-not-in_range.false) _
-    (line_open _ a.l.now (sym c.ends_cr_lf.ensures ∙ c.if-not-ends_cr_lf.true))
+    let closed : ends_cr_lf a.l.now ≡ true = grind (arith, nat_tests, cr_lf_at) in
+    due_line a.line a.l.now (sym c.in_range.ensures ∙ c.if-not-in_range.false) _ (line_closed _ a.l.now (omega arith) closed _ c.body_fits.ensures)
 
-pub overflow_sub-n : goal.overflow_sub-n
-overflow_sub-n c = ends_long c.args.l.now (sym c.ends_cr_lf.ensures ∙ c.if-not-ends_cr_lf.false)
-
-pub overflow_sub-line : goal.overflow_sub-line
-overflow_sub-line c = (in_range_law 1 line_count c.args.line (sym c.in_range.ensures ∙ c.if-not-in_range.false)).0
-
-pub slice_bounds-body_fits-end : goal.slice_bounds-body_fits-end
-slice_bounds-body_fits-end c = part_length c.args.l.now (length c.args.l.now - 2) (omega arith)
-
-pub body_fits-requires : goal.body_fits-requires
-body_fits-requires c =
-    let due = in_range_law 1 line_count c.args.line (sym c.in_range.ensures ∙ c.if-not-in_range.false) in
-    omega (arith, due.0, due.1)
-
-pub returns : goal.returns
-returns c =
+pub returns-in_default : goal.returns-in_default
+returns-in_default c =
     let a = c.args in
-    due_line a.line a.l.now (sym c.in_range.ensures ∙ c.if-not-in_range.false) _
-    (line_closed _ a.l.now (omega arith) (sym c.ends_cr_lf.ensures ∙ c.if-not-ends_cr_lf.false) _ c.body_fits.ensures)
+    let open_line : ends_cr_lf a.l.now ≡ false = grind (arith, nat_tests, cr_lf_none) in
+    due_line a.line a.l.now (sym c.in_range.ensures ∙ c.if-not-in_range.false) _ (line_open _ a.l.now open_line)
+
+pub returns-in_default-2 : goal.returns-in_default-2
+returns-in_default-2 c =
+    let a = c.args in
+    let open_line : ends_cr_lf a.l.now ≡ false = grind (arith, nat_tests, cr_lf_at) in
+    due_line a.line a.l.now (sym c.in_range.ensures ∙ c.if-not-in_range.false) _ (line_open _ a.l.now open_line)
+
+pub returns-in_default-3 : goal.returns-in_default-3
+returns-in_default-3 c =
+    let a = c.args in
+    let open_line : ends_cr_lf a.l.now ≡ false = grind (arith, nat_tests, cr_lf_at) in
+    due_line a.line a.l.now (sym c.in_range.ensures ∙ c.if-not-in_range.false) _ (line_open _ a.l.now open_line)

@@ -1,16 +1,9 @@
 -- `fields::field::is_minutes` meets its contract: by the number that stands first.
 -- Assumes nothing.
-use mathlib.Core.Path.{ap, ◌∙◌}
-use Rattle.fields.specs.Field.{colon, is_seconds}
-use Rattle.fields.proofs.MarkLaws.{tail_part}
-use Rattle.fields.proofs.NumberLaws.{none_then, then_rest}
+use Rattle.std.proofs.Common.{rules, tests}
+use Rattle.fields.specs.Field.{is_seconds, colon}
+use Rattle.fields.proofs.NumberLaws.{then_rest}
 use Rattle.fields.proofs.field.is_minutes.Goals as goal
 
-pub returns-then-n-eq0 : goal.returns-then-n-eq0
-returns-then-n-eq0 c = none_then colon 2 2 0 59 c.args.s.now is_seconds _ c.after_whole-n.ensures c.if-n-eq0.true
-
 pub returns : goal.returns
-returns c =
-    c.is_seconds.ensures
-    ∙ ap is_seconds (tail_part c.args.s.now c.after_whole-n.result)
-    ∙ then_rest colon 2 2 0 59 c.args.s.now is_seconds _ c.after_whole-n.ensures c.if-n-eq0.false
+returns c = then_rest colon 2 2 0 59 c.args.s.now is_seconds c.after_whole.result _ c.after_whole.ensures (search (rules, tests))

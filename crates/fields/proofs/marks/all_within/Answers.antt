@@ -1,33 +1,15 @@
-use mathlib.Core.Path.{refl, sym, ◌∙◌}
-use native.Mathlib.Omega.{arith}
-use Rattle.fields.proofs.MarkLaws.{within_on, too_low, too_high, within_end}
+-- `fields::marks::all_within` meets its contract: the library asks of each byte.
+-- Assumes nothing.
+use mathlib.Core.Path.{◌∙◌}
+use Rattle.std.proofs.Common.{rules, tests}
+use Rattle.std.proofs.lemmas.Iterator.{YieldsList-from_slice}
+use Rattle.std.proofs.lemmas.Iterator.Search.{all_from_yields_List}
+use Rattle.checks.specs.Range.{in_range}
+use Rattle.fields.proofs.MarkLaws.{all_in_range}
 use Rattle.fields.proofs.marks.all_within.Goals as goal
-
-pub loop-i-init : goal.loop-i-init
-loop-i-init c = refl
-
-pub returns-then-b-low : goal.returns-then-b-low
-returns-then-b-low c =
-    let a = c.args in
-    let l = c.loop-i in
-    sym (l.invariant ∙ too_low a.low a.high a.s.now l.i c.loop-i-test.true c.if-b-low.true)
-
-pub returns-then-high-b : goal.returns-then-high-b
-returns-then-high-b c =
-    let a = c.args in
-    let l = c.loop-i in
-    sym (l.invariant ∙ too_high a.low a.high a.s.now l.i c.loop-i-test.true c.if-high-b.true)
-
-pub loop-i-preserved : goal.loop-i-preserved
-loop-i-preserved c =
-    let a = c.args in
-    let l = c.loop-i in
-    l.invariant
-    ∙ within_on a.low a.high a.s.now l.i c.loop-i-test.true
-    (omega (arith, c.if-b-low.false)) (omega (arith, c.if-high-b.false))
 
 pub returns : goal.returns
 returns c =
     let a = c.args in
-    let l = c.loop-i in
-    sym (l.invariant ∙ within_end a.low a.high a.s.now l.i (omega (arith, c.loop-i-test.false)))
+    let all = all_from_yields_List (in_range a.low a.high) _ _ c.all.result c.all.ensures.ran (YieldsList-from_slice a.s.now cc) (λ x b q k. search (rules, tests)) in
+    all ∙ all_in_range a.low a.high a.s.now

@@ -1,16 +1,16 @@
--- `fields::marks::mark_length` meets its contract: by what the text begins with.
+-- `fields::marks::mark_length` meets its contract: the first byte tells.
 -- Assumes nothing.
-use mathlib.Core.Path.{sym, ◌∙◌}
-use Rattle.fields.proofs.MarkLaws.{first_unmarked, second_unmarked, not_unmarked}
+use native.Mathlib.Omega.{arith}
+use Rattle.std.proofs.lemmas.Bool.Decides.{nat_tests}
+use Rattle.fields.proofs.MarkLaws.{mark_first, no_mark_first}
 use Rattle.fields.proofs.marks.mark_length.Goals as goal
+use Rattle.fields.proofs.marks.mark_length.Goals.{then-b-m, else-b-m}
 
-pub returns-then-begins_with : goal.returns-then-begins_with
-returns-then-begins_with c = let a = c.args in first_unmarked a.m a.n a.s.now (sym c.begins_with.ensures ∙ c.if-begins_with.true)
+pub returns-in-len1-up : goal.returns-in-len1-up
+returns-in-len1-up c = let a = c.args in mark_first a.m a.n a.s.now (omega arith) (elim c.if-b-m.branch [ then-b-m w ↦ grind (arith, nat_tests) | else-b-m w ↦ grind (arith, nat_tests) ])
 
-pub returns-then-begins_with-2 : goal.returns-then-begins_with-2
-returns-then-begins_with-2 c = let a = c.args in second_unmarked a.m a.n a.s.now (sym c.begins_with-2.ensures ∙ c.if-begins_with-2.true)
+pub returns-in_default : goal.returns-in_default
+returns-in_default c = let a = c.args in no_mark_first a.m a.n a.s.now (λ h. absurd (omega arith))
 
-pub returns : goal.returns
-returns c =
-    let a = c.args in
-    not_unmarked a.m a.n a.s.now (sym c.begins_with.ensures ∙ c.if-begins_with.false) (sym c.begins_with-2.ensures ∙ c.if-begins_with-2.false)
+pub returns-in_default-2 : goal.returns-in_default-2
+returns-in_default-2 c = let a = c.args in no_mark_first a.m a.n a.s.now (λ h. elim c.if-b-m.branch [ then-b-m w ↦ grind (arith, nat_tests) | else-b-m w ↦ grind (arith, nat_tests) ])

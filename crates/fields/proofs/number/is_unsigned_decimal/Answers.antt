@@ -2,25 +2,25 @@
 -- Assumes nothing.
 use mathlib.Core.Path.{sym, ap, ◌∙◌}
 use Prim.Native.Nat.{◌+◌}
+use borrow.Author.Tests.{eq-eqb}
 use Rattle.fields.specs.Number.{point, some_digits}
-use Rattle.fields.proofs.MarkLaws.{part_length, tail_part}
+use Rattle.fields.proofs.MarkLaws.{tail_part}
 use Rattle.fields.proofs.NumberLaws.{not_first, first_alone, first_and_rest}
 use Rattle.fields.proofs.number.is_unsigned_decimal.Goals as goal
 
-pub slice_bounds-some_digits-end : goal.slice_bounds-some_digits-end
-slice_bounds-some_digits-end c = part_length c.args.s.now _ c.until-n.ensures.within
-
-pub returns-then-not-some_digits : goal.returns-then-not-some_digits
-returns-then-not-some_digits c = not_first point point some_digits some_digits c.args.s.now _ c.until-n.ensures (sym c.some_digits.ensures ∙ c.if-not-some_digits.true)
+pub returns-else-some_digits : goal.returns-else-some_digits
+returns-else-some_digits c =
+    c.if-some_digits.false ∙ not_first point point some_digits some_digits c.args.s.now _ c.until-n.ensures (sym c.some_digits.ensures ∙ c.if-some_digits.false)
 
 pub returns-then-n-s : goal.returns-then-n-s
 returns-then-n-s c =
-    first_alone point point some_digits some_digits c.args.s.now _ c.until-n.ensures
-    (sym c.some_digits.ensures ∙ c.if-not-some_digits.false) c.if-n-s.true
+    eq-eqb _ _ c.if-n-s.true
+    ∙ first_alone point point some_digits some_digits c.args.s.now _ c.until-n.ensures
+    (sym c.some_digits.ensures ∙ c.if-some_digits.true) c.if-n-s.true
 
-pub returns : goal.returns
-returns c =
-    c.some_digits-2.ensures
+pub returns-else-n-s : goal.returns-else-n-s
+returns-else-n-s c =
+    c.some_digits-else-n-s.ensures
     ∙ ap some_digits (tail_part c.args.s.now (c.until-n.result + 1))
     ∙ first_and_rest point point some_digits some_digits c.args.s.now _ c.until-n.ensures
-    (sym c.some_digits.ensures ∙ c.if-not-some_digits.false) c.if-n-s.false
+    (sym c.some_digits.ensures ∙ c.if-some_digits.true) c.if-n-s.false
