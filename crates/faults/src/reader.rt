@@ -84,6 +84,7 @@ fn closing_at(
 
 // A line that is due one field for each width, in one scan: field by field, and in each digit by digit, to the first fault. The numbers
 // stand at the front; the other places hold 0.
+// Loops by hand: docs/SHEET.md has the scan as a nested loop that breaks by label, and where a field ends its bytes tell.
 pub fn read_line(s: &[u8], widths: &[usize]) -> Result<[u64; FIELD_LIMIT], Fault>
     requires { Readable widths.now }
     ensures { result ≡ line_answer widths.now s.now }

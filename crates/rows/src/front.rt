@@ -25,6 +25,7 @@ struct Field {
 }
 
 // At most `width` digits from a place on, and the byte after them.
+// A loop by hand: with `take_while` and `fold` a row of the replay took half as many instructions again.
 fn read_field(s: &[u8], at: usize, width: usize, closer: u8) -> Option<Field>
     requires { (at + width < length s.now) × (width ≤ digit_limit) }
     ensures answer { result ≡ field_from width closer s.now at }
@@ -52,6 +53,7 @@ fn read_field(s: &[u8], at: usize, width: usize, closer: u8) -> Option<Field>
 }
 
 // The six fields of a row and its LF, whatever its number.
+// `ROW_WIDTHS` is written out: read from there, a row of the replay took a hundredth more instructions.
 #[tactic(auto, unfolding(crate::specs::device::Front::fields_from, crate::specs::device::Front::numbers_from))]
 fn read_fields(s: &[u8], at: usize) -> Option<Front>
     requires { at + front_room ≤ length s.now }

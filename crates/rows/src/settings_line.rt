@@ -12,11 +12,8 @@ pub fn read_settings_line(line: &[u8]) -> Result<Settings, Refusal>
     ensures answer { result ≡ settings_line_answer line.now }
     ensures numbers { settings_line_numbers result ≡ settings_line_refusal line.now }
 {
-    let n = read_line(line, &SETTINGS_WIDTHS).map_err(|fault| refuse_shape(
-        line,
-        fault,
-        SETTINGS_WIDTHS.len(),
-    ))?;
+    let fields = SETTINGS_WIDTHS.len();
+    let n = read_line(line, &SETTINGS_WIDTHS).map_err(|fault| refuse_shape(line, fault, fields))?;
     let settings = Settings {
         operation: n[0] as u32,
         start_current: n[1] as u32,
