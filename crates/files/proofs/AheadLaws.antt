@@ -8,7 +8,7 @@ use Prim.Native.Nat.{ℕ, ◌+◌, ◌*◌, ◌-◌, ◌≤◌}
 use native.Mathlib.Omega.{arith}
 use lib.Dec.{eqb}
 use lib.ListN.{length, drop, length-append}
-use lib.Seq.{sets, length-sets}
+use lib.Seq.{sets}
 use borrow.Author.Tests.{eqb-true}
 use Rattle.checks.specs.Checks.{first_failed}
 use Rattle.checks.proofs.Tests.{both_true}
@@ -200,37 +200,41 @@ not_ahead form p portion from page h = record { wrote = []; on = onward_none por
 
 -- ---- the turns of a portion
 
-pub turn_ahead : (r : Replay) (p before : List ℕ) (i : ℕ) (progress : Progress) (at : ℕ) (out out' : List ℕ) (x : Ahead)
-    → FeedTurn r p before i (still r.form progress) at out → RanAhead r.form progress p i out out' at x
-    → FeedTurn r p before x.next (still r.form x.progress) x.written out'
-turn_ahead r p before i progress at out out' x turn ran =
+pub turn_ahead : (r : Replay) (p : List ℕ) (before : Page) (i : ℕ) (progress : Progress) (now after : Page) (x : Ahead Progress)
+    → FeedTurn r p before i (still r.form progress) now → RanAhead r.form progress p i now after x
+    → FeedTurn r p before x.next (still r.form x.reached) after
+turn_ahead r p before i progress now after x turn ran =
     let on = ran.on in
-    let ws = writes (still r.form x.progress) (drop x.next p) in
+    let put = ran.put in
+    let ws = writes (still r.form x.reached) (drop x.next p) in
     let size : length (writes (still r.form progress) (drop i p)) ≡ length ran.wrote + length ws = ap length on.bytes ∙ length-append ran.wrote ws in
     record {
       within = on.within;
-      long = ap length ran.output ∙ length-sets out at ran.wrote ∙ turn.long;
+      same_buffer = put.same_buffer ∙ turn.same_buffer;
+      as_long = put.as_long ∙ turn.as_long;
       room = turn.room;
       short = turn.short;
       same = refl;
-      little = little_on r.form at (length ran.wrote) x.written i x.next r.cutter.count turn.little on.short ran.place;
+      little = little_on r.form before.at now.at (length ran.wrote) after.at i x.next r.cutter.count turn.little on.short put.place_after;
       state = turn.state ∙ on.state;
-      place = omega (arith, turn.place, size, ran.place);
-      bytes = turn.bytes ∙ ap (sets out at) on.bytes ∙ sets_append out at ran.wrote ws ∙ rw (ran.output, ran.place);
+      place = omega (arith, turn.place, size, put.place_after);
+      bytes = turn.bytes ∙ ap (sets now.out.now now.at) on.bytes ∙ sets_append now.out.now now.at ran.wrote ws ∙ rw (put.output, put.place_after);
     }
   where
-    little_on : (form : Form) (at wrote written i j begun : ℕ) → at + spread form * 0 ≤ spread form * (begun + i) → wrote + spread form * i ≤ spread form * j → written ≡ at + wrote → written + spread form * 0 ≤ spread form * (begun + j)
-    little_on Changes at wrote written i j begun h k e = omega arith
-    little_on Record at wrote written i j begun h k e = omega arith
-    little_on (Explain row) at wrote written i j begun h k e = omega arith
-    little_on ExplainAll at wrote written i j begun h k e = omega arith
+    little_on : (form : Form) (start at wrote written i j begun : ℕ) → at + spread form * 0 ≤ start + spread form * (begun + i) → wrote + spread form * i ≤ spread form * j → written ≡ at + wrote → written + spread form * 0 ≤ start + spread form * (begun + j)
+    little_on Changes start at wrote written i j begun h k e = omega arith
+    little_on Record start at wrote written i j begun h k e = omega arith
+    little_on (Explain row) start at wrote written i j begun h k e = omega arith
+    little_on ExplainAll start at wrote written i j begun h k e = omega arith
 
 -- the room that the rest of a portion has
-pub turn_room : (r : Replay) (p before : List ℕ) (i : ℕ) (progress : Progress) (at : ℕ) (out : List ℕ) → FeedTurn r p before i (still r.form progress) at out → portion_room r.form r.cutter.count (length p) ≤ length before → at + spread r.form * (length p - i) ≤ length out
-turn_room r p before i progress at out turn h = rw turn.long (room_on r.form at i r.cutter.count (length p) (length before) turn.little turn.within h)
+pub turn_room : (r : Replay) (p : List ℕ) (before : Page) (i : ℕ) (progress : Progress) (now : Page) → FeedTurn r p before i (still r.form progress) now
+    → before.at + portion_room r.form r.cutter.count (length p) ≤ length before.out.now → now.at + spread r.form * (length p - i) ≤ length now.out.now
+turn_room r p before i progress now turn h =
+    rw turn.as_long (room_on r.form before.at now.at i r.cutter.count (length p) (length before.out.now) turn.little turn.within h)
   where
-    room_on : (form : Form) (at i begun total room : ℕ) → at + spread form * 0 ≤ spread form * (begun + i) → i ≤ total → spread form * (begun + total) ≤ room → at + spread form * (total - i) ≤ room
-    room_on Changes at i begun total room h k e = omega arith
-    room_on Record at i begun total room h k e = omega arith
-    room_on (Explain row) at i begun total room h k e = omega arith
-    room_on ExplainAll at i begun total room h k e = omega arith
+    room_on : (form : Form) (start at i begun total room : ℕ) → at + spread form * 0 ≤ start + spread form * (begun + i) → i ≤ total → start + spread form * (begun + total) ≤ room → at + spread form * (total - i) ≤ room
+    room_on Changes start at i begun total room h k e = omega arith
+    room_on Record start at i begun total room h k e = omega arith
+    room_on (Explain row) start at i begun total room h k e = omega arith
+    room_on ExplainAll start at i begun total room h k e = omega arith

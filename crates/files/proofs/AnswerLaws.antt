@@ -1,29 +1,36 @@
 -- What feeding and ending answer, case by case.
 -- Assumes nothing.
+use Rattle.std.specs.Prelude.{Result, Some, None}
+use Rattle.config.specs.declared.reader.Fault.{Fault}
 use mathlib.Core.Path.{◌≡◌, refl, ap, ◌∙◌}
 use mathlib.Core.Bool.{Bool, true, false, ◌&&◌}
 use mathlib.Core.List.{List, [], ◌∷◌, ◌++◌}
-use Prim.Native.Nat.{ℕ, ◌*◌, ◌/◌, ◌≤◌, ◌<◌}
+use Prim.Native.Nat.{ℕ, ◌+◌, ◌*◌, ◌/◌, ◌≤◌, ◌<◌}
 use native.Mathlib.Omega.{arith}
 use lib.Dec.{leb, ltb}
 use lib.ListN.{length}
 use borrow.Author.Tests.{le-leb, lt-leb, lt-ltb, leb-true, ltb-true}
-use Rattle.config.specs.declared.reader.ConfigRead.{ConfigRead}
 use Rattle.config.specs.Config.{config_of}
 use Rattle.config.specs.Reader.{fresh_reader, taken_all, end_answer}
 use Rattle.config.proofs.ConfigLaws.{config_of_calls}
-use Rattle.steps.specs.declared.configuration.Configuration.{Configuration}
-use Rattle.steps.specs.declared.configuration.Configuration.TheVariants.{Absent, Given}
+use Rattle.steps.specs.Configuration.{Configuration}
 use Rattle.steps.specs.declared.output.Form.{Form}
 use Rattle.steps.specs.declared.output.Form.TheVariants.{Changes, Record, Explain, ExplainAll}
 use Rattle.files.specs.declared.replay.Replay.{Replay}
 use Rattle.files.specs.declared.replay.Fed.{Fed}
 use Rattle.text.specs.Lines.{joined}
+use Rattle.text.specs.declared.page.Page.{Page}
+use Rattle.text.specs.device.Page.{Put}
 use Rattle.steps.specs.Output.{spread, end_room}
 use Rattle.files.specs.Replay.{Told, written_first, told_of, notes_and_end, replay_of, configured_replay_of, record_of, explanation_of, explanations_of, longest_line, line_limit, fresh_replay, portion_room, fed, writes, takes, fed_by, fed_if, feed_answer, writes_if, feed_writes, ends_with, refusal_at_end, finish_if, finish_writes}
 use Rattle.files.specs.device.Calls.{Sound}
 use Rattle.checks.proofs.Tests.{both_true, leb_iff}
 use Rattle.files.proofs.PortionLaws.{fed_form, fed_sound, fresh_sound, told_by_portions, told_of_portions}
+
+-- what was put on a page stands within its buffer
+pub put_inside : {room : ℕ} {before after : Page} {bytes : List ℕ} → Put room before after bytes → before.at + room ≤ length before.out.now
+    → (out : List ℕ) → out ≡ after.out.now → after.at ≤ length out
+put_inside put h out e = rw e (omega (arith, put.as_long, put.place_after, put.short, h))
 
 -- ---- feeding
 
@@ -131,15 +138,15 @@ module _ (room last : ℕ) (k : end_room ≤ last) where
 
   -- WHAT A TESTER RELIES ON: whatever the portions, what the calls hand out is the replay of the whole input
   pub replay_of_calls : (ps : List (List ℕ)) → room_for Changes ps room ≡ true
-      → notes_and_end (handed_out (fresh_replay Changes Absent) ps room last) ≡ replay_of (joined ps)
-  replay_of_calls ps e = ap notes_and_end (told_of_calls Changes Absent ps e)
+      → notes_and_end (handed_out (fresh_replay Changes None) ps room last) ≡ replay_of (joined ps)
+  replay_of_calls ps e = ap notes_and_end (told_of_calls Changes None ps e)
 
   -- and with a configuration, from what its reader answers, whatever the portions of either
   pub configured_replay_of_calls : (cs ps : List (List ℕ)) → room_for Changes ps room ≡ true
-      → notes_and_end (handed_out (fresh_replay Changes (Given (end_answer (taken_all fresh_reader cs)))) ps room last) ≡ configured_replay_of (joined cs) (joined ps)
+      → notes_and_end (handed_out (fresh_replay Changes (Some (end_answer (taken_all fresh_reader cs)))) ps room last) ≡ configured_replay_of (joined cs) (joined ps)
   configured_replay_of_calls cs ps e =
-      ap (λ (a : ConfigRead). notes_and_end (handed_out (fresh_replay Changes (Given a)) ps room last)) (config_of_calls cs)
-      ∙ ap notes_and_end (told_of_calls Changes (Given (config_of (joined cs))) ps e)
+      ap (λ (a : Result ℕ Fault). notes_and_end (handed_out (fresh_replay Changes (Some a)) ps room last)) (config_of_calls cs)
+      ∙ ap notes_and_end (told_of_calls Changes (Some (config_of (joined cs))) ps e)
 
 -- what comes before the end does not depend on the end's room
 notes_alone : (r : Replay) (ps : List (List ℕ)) (room a b : ℕ) → (handed_out r ps room a).notes ≡ (handed_out r ps room b).notes
@@ -147,18 +154,18 @@ unfolding handed_out
 notes_alone r [] room a b = refl
 notes_alone r (p ∷ ps) room a b = ap (λ (w : List ℕ). feed_writes r p room ++ w) (notes_alone (feed_answer r p room).state ps room a b)
 
-notes_of_calls : (form : Form) (ps : List (List ℕ)) (room last : ℕ) → room_for form ps room ≡ true → (handed_out (fresh_replay form Absent) ps room last).notes ≡ (told_of form Absent (joined ps)).notes
+notes_of_calls : (form : Form) (ps : List (List ℕ)) (room last : ℕ) → room_for form ps room ≡ true → (handed_out (fresh_replay form None) ps room last).notes ≡ (told_of form None (joined ps)).notes
 notes_of_calls form ps room last e =
-    notes_alone (fresh_replay form Absent) ps room last end_room ∙ ap (λ (x : Told). x.notes) (told_of_calls room end_room (omega arith) form Absent ps e)
+    notes_alone (fresh_replay form None) ps room last end_room ∙ ap (λ (x : Told). x.notes) (told_of_calls room end_room (omega arith) form None ps e)
 
 -- WHAT A VIEWER RELIES ON: whatever the portions, what the calls hand out before the end is the record of the whole input
-pub record_of_calls : (ps : List (List ℕ)) (room last : ℕ) → room_for Record ps room ≡ true → (handed_out (fresh_replay Record Absent) ps room last).notes ≡ record_of (joined ps)
+pub record_of_calls : (ps : List (List ℕ)) (room last : ℕ) → room_for Record ps room ≡ true → (handed_out (fresh_replay Record None) ps room last).notes ≡ record_of (joined ps)
 record_of_calls = notes_of_calls Record
 
 -- WHAT A STUDENT RELIES ON: and the same of the explanation of a row
-pub explanation_of_calls : (row : ℕ) (ps : List (List ℕ)) (room last : ℕ) → room_for (Explain row) ps room ≡ true → (handed_out (fresh_replay (Explain row) Absent) ps room last).notes ≡ explanation_of row (joined ps)
+pub explanation_of_calls : (row : ℕ) (ps : List (List ℕ)) (room last : ℕ) → room_for (Explain row) ps room ≡ true → (handed_out (fresh_replay (Explain row) None) ps room last).notes ≡ explanation_of row (joined ps)
 explanation_of_calls row = notes_of_calls (Explain row)
 
 -- and of the explanations of all rows
-pub explanations_of_calls : (ps : List (List ℕ)) (room last : ℕ) → room_for ExplainAll ps room ≡ true → (handed_out (fresh_replay ExplainAll Absent) ps room last).notes ≡ explanations_of (joined ps)
+pub explanations_of_calls : (ps : List (List ℕ)) (room last : ℕ) → room_for ExplainAll ps room ≡ true → (handed_out (fresh_replay ExplainAll None) ps room last).notes ≡ explanations_of (joined ps)
 explanations_of_calls = notes_of_calls ExplainAll

@@ -1,5 +1,7 @@
 -- What the explanation of a row is, of the whole input.
 -- Assumes nothing.
+use Rattle.std.specs.Prelude.{Result, Ok, Err, None}
+use Rattle.rows.specs.declared.refusal.Refusal.{Refusal}
 use Prim.Native.Nat.{ℕ, ◌+◌, ◌≤◌, ◌<◌}
 use native.Mathlib.Omega.{arith}
 use mathlib.Core.Bool.{Bool, true, false}
@@ -9,13 +11,10 @@ use borrow.Author.Tests.{eq-eqb, leb-true, leb-false}
 use lib.Dec.{leb}
 use Rattle.explanations.proofs.ExplanationLaws.{explained_lines, lines_explained}
 use Rattle.rows.specs.declared.row.Row.{Row}
-use Rattle.rows.specs.declared.row.RowRead.{RowRead}
-use Rattle.rows.specs.declared.row.RowRead.TheVariants.{Accepted, Refused}
 use Rattle.rows.specs.Row.{row_answer}
 use Rattle.rows.specs.SettingsLine.{settings_line_answer}
 use Rattle.text.specs.declared.lines.Closer.TheVariants.{CrLf}
 use Rattle.text.specs.Lines.{lines_of}
-use Rattle.steps.specs.declared.configuration.Configuration.TheVariants.{Absent}
 use Rattle.steps.specs.declared.output.Form.TheVariants.{Explain}
 use Rattle.steps.specs.declared.progress.Stage.{Stage}
 use Rattle.steps.specs.declared.progress.Stage.TheVariants.{Opening, Running, Stopped}
@@ -29,16 +28,16 @@ use Rattle.files.proofs.RefusedLaws.{by_cons, by_nil}
 
 -- the lines before some, and those
 explanation_from : (row : ℕ) (s : List ℕ) (ls ms : List (List ℕ)) → lines_of CrLf s ≡ ls ++ ms
-    → explanation_of row s ≡ wrote_lines (Explain row) (fresh_progress Absent) ls ++ (by_lines (Explain row) (after_lines (fresh_progress Absent) ls) ms).notes
+    → explanation_of row s ≡ wrote_lines (Explain row) (fresh_progress None) ls ++ (by_lines (Explain row) (after_lines (fresh_progress None) ls) ms).notes
 unfolding told_of
 explanation_from row s ls ms e =
-    ap (λ (x : Told). x.notes) (ap (by_lines (Explain row) (fresh_progress Absent)) e ∙ by_lines_append (Explain row) (fresh_progress Absent) ls ms)
+    ap (λ (x : Told). x.notes) (ap (by_lines (Explain row) (fresh_progress None)) e ∙ by_lines_append (Explain row) (fresh_progress None) ls ms)
 
 -- nothing is written where the recording does not come to the row, refused or not
-pub no_explanation : (row : ℕ) (s : List ℕ) → (after_lines (fresh_progress Absent) (lines_of CrLf s)).done < row → explanation_of row s ≡ []
+pub no_explanation : (row : ℕ) (s : List ℕ) → (after_lines (fresh_progress None) (lines_of CrLf s)).done < row → explanation_of row s ≡ []
 no_explanation row s h =
     let ls = lines_of CrLf s in
-    explanation_from row s ls [] (sym (append-nil ls)) ∙ rw (quiet_before row (fresh_progress Absent) ls h, by_nil (Explain row) (after_lines (fresh_progress Absent) ls))
+    explanation_from row s ls [] (sym (append-nil ls)) ∙ rw (quiet_before row (fresh_progress None) ls h, by_nil (Explain row) (after_lines (fresh_progress None) ls))
 
 -- ---- a row that is done stands in a line
 
@@ -50,18 +49,18 @@ pub record RowIn (row : ℕ) (p : Progress) (lines : List (List ℕ)) : Type 0 w
   pub x : Row
   pub cut : lines ≡ before ++ (line ∷ after)
   pub running : (after_lines p before).stage ≡ Running
-  pub accepted : row_answer line (after_lines p before).done ≡ Accepted x
+  pub accepted : row_answer line (after_lines p before).done ≡ Ok x
   pub asked : (after_lines p before).done + 1 ≡ row
 
 -- a line that does a row is an accepted one
 record DoesRow (stage : Stage) (p : Progress) (l : List ℕ) : Type 0 where
   running : stage ≡ Running
   x : Row
-  accepted : row_answer l p.done ≡ Accepted x
+  accepted : row_answer l p.done ≡ Ok x
 
-row_done_law : (p : Progress) (l : List ℕ) (answer : RowRead) → row_answer l p.done ≡ answer → p.done < (stepped p answer).done → DoesRow Running p l
-row_done_law p l (Accepted x) e h = record { running = refl; x = x; accepted = e }
-row_done_law p l (Refused n) e h = absurd (omega (arith, h))
+row_done_law : (p : Progress) (l : List ℕ) (answer : Result Row Refusal) → row_answer l p.done ≡ answer → p.done < (stepped p answer).done → DoesRow Running p l
+row_done_law p l (Ok x) e h = record { running = refl; x = x; accepted = e }
+row_done_law p l (Err n) e h = absurd (omega (arith, h))
 
 line_does : (stage : Stage) (p : Progress) (l : List ℕ) → p.done < (after_by stage p l).done → DoesRow stage p l
 unfolding after_by
@@ -112,37 +111,37 @@ row_found row p (l ∷ ls) low high =
 -- the line of the asked row, after the lines before it
 module _ (row : ℕ) (ls : List (List ℕ)) (l : List ℕ) (x : Row) where
   abbrev before : Progress
-  before = after_lines (fresh_progress Absent) ls
+  before = after_lines (fresh_progress None) ls
 
-  module _ (running : before.stage ≡ Running) (e : row_answer l before.done ≡ Accepted x) (asked : before.done + 1 ≡ row) where
-    row_writes : wrote_line (Explain row) before l ≡ explained_lines before.settings before.relay x.l1 x.l2 x.l3 x.block
+  module _ (running : before.stage ≡ Running) (e : row_answer l before.done ≡ Ok x) (asked : before.done + 1 ≡ row) where
+    row_writes : wrote_line (Explain row) before l ≡ explained_lines before.settings before.relay x.sample
     unfolding wrote_by
     row_writes =
-        let (accepted, is_valid, bit) = row_allowed Absent ls l x running e in
-        rw (running, e, eq-eqb _ 0 (no_tick_refused Absent ls l x running e), eq-eqb (before.done + 1) row asked)
-        (lines_explained before.settings before.relay x.l1 x.l2 x.l3 x.block accepted is_valid bit)
+        let (accepted, is_valid, bit) = row_allowed None ls l x running e in
+        rw (running, e, eq-eqb _ 0 (no_tick_refused None ls l x running e), eq-eqb (before.done + 1) row asked)
+        (lines_explained before.settings before.relay x.sample accepted is_valid bit)
 
     done_after : (after_line before l).done ≡ row
-    done_after = ap (λ (p : Progress). p.done) (accepted_row_is_done Absent ls l x running e) ∙ asked
+    done_after = ap (λ (p : Progress). p.done) (accepted_row_is_done None ls l x running e) ∙ asked
 
     -- WHAT `explain ROW` WRITES: the reason of each phase in the row's tick, from the state that the rows before it left, and
     -- nothing else, whatever follows
     pub explanation_of_row : (s : List ℕ) (ms : List (List ℕ)) → lines_of CrLf s ≡ ls ++ (l ∷ ms)
-        → explanation_of row s ≡ explained_lines before.settings before.relay x.l1 x.l2 x.l3 x.block
+        → explanation_of row s ≡ explained_lines before.settings before.relay x.sample
     explanation_of_row s ms cut =
         explanation_from row s ls (l ∷ ms) cut
-        ∙ rw (quiet_before row (fresh_progress Absent) ls (omega (arith, asked)), by_cons (Explain row) before l ms, row_writes)
+        ∙ rw (quiet_before row (fresh_progress None) ls (omega (arith, asked)), by_cons (Explain row) before l ms, row_writes)
         (rw (quiet_after row (after_line before l) ms (omega (arith, done_after))) (append-nil _))
 
 -- so every row done is explained: where the recording comes to it, its line was found and this is written of it
 pub record RowExplained (row : ℕ) (s : List ℕ) : Type 0 where
-  pub found : RowIn row (fresh_progress Absent) (lines_of CrLf s)
+  pub found : RowIn row (fresh_progress None) (lines_of CrLf s)
   pub written :
-      let before : Progress = after_lines (fresh_progress Absent) found.before in
+      let before : Progress = after_lines (fresh_progress None) found.before in
       let x : Row = found.x in
-      explanation_of row s ≡ explained_lines before.settings before.relay x.l1 x.l2 x.l3 x.block
+      explanation_of row s ≡ explained_lines before.settings before.relay x.sample
 
-pub every_row_explained : (row : ℕ) (s : List ℕ) → 0 < row → row ≤ (after_lines (fresh_progress Absent) (lines_of CrLf s)).done → RowExplained row s
+pub every_row_explained : (row : ℕ) (s : List ℕ) → 0 < row → row ≤ (after_lines (fresh_progress None) (lines_of CrLf s)).done → RowExplained row s
 every_row_explained row s some high =
-    let r = row_found row (fresh_progress Absent) (lines_of CrLf s) some high in
+    let r = row_found row (fresh_progress None) (lines_of CrLf s) some high in
     record { found = r; written = explanation_of_row row r.before r.line r.x r.running r.accepted r.asked s r.after r.cut }

@@ -6,24 +6,24 @@ use mathlib.Core.List.{List, [], ◌∷◌, ◌++◌, append-nil}
 use Prim.Native.Nat.{ℕ, ◌+◌, ◌*◌, ◌≤◌, ◌<◌}
 use native.Mathlib.Nat.{add-zero}
 use native.Mathlib.Omega.{arith}
-use lib.ListN.{length, drop, length-append, drop_of_length-le}
-use lib.Seq.{sets, length-sets}
+use lib.ListN.{length, drop, length-append, length-take, drop_of_length-le}
+use lib.Seq.{sets}
 use Rattle.text.specs.declared.lines.Closer.TheVariants.{CrLf}
 use Rattle.text.specs.declared.lines.Cut.{Cut}
 use Rattle.text.specs.declared.lines.Cut.TheVariants.{Held, Closed, TooLong}
 use Rattle.text.specs.declared.cutter.Cutter.{Cutter}
 use Rattle.text.specs.declared.cutter.PieceCut.{PieceCut}
+use Rattle.text.specs.declared.page.Page.{Page}
+use Rattle.text.specs.device.Page.{Put}
 use Rattle.text.specs.Lines.{Cutting, one_more, cutting_by, cut_so_far, cutting}
 use Rattle.text.specs.Cutter.{held_room, empty_cutter, held_line, held_after, cutter_after, piece_answer}
 use Rattle.steps.specs.declared.output.Form.{Form}
 use Rattle.steps.specs.declared.output.Form.TheVariants.{Changes, Record, Explain, ExplainAll}
-use Rattle.steps.specs.declared.progress.Noted.{Noted}
+use Rattle.steps.specs.declared.progress.Progress.{Progress}
 use Rattle.files.specs.declared.replay.Replay.{Replay}
-use Rattle.files.specs.declared.replay.Fed.{Fed}
 use Rattle.steps.specs.Output.{spread}
 use Rattle.steps.specs.Progress.{after_line, wrote_line}
 use Rattle.files.specs.Replay.{line_limit, after_lines, wrote_lines, with_long, lines_in, cut_portion, fed_cut, fed, writes}
-use Rattle.steps.specs.device.Calls.{LineNoted}
 use Rattle.files.specs.device.Calls.{PortionFed}
 use Rattle.text.proofs.StoreLaws.{sets_append}
 use Rattle.text.proofs.PieceLaws.{PieceTaken, piece_taken, cutting_goes_on}
@@ -112,110 +112,132 @@ module _ (s : Replay) (p : List ℕ) (i : ℕ) (short : s.cutter.count < line_li
 -- ---- what holds of a portion at its place i: the state s and the rest of the portion give what the whole gives
 
 -- the room that is left: a byte held or still to be read may write as many as it spreads to
-room_left : (form : Form) (at held i begun total : ℕ) → at + spread form * held ≤ spread form * (begun + i) → i ≤ total → at ≤ spread form * (begun + total)
-room_left Changes at held i begun total h k = omega arith
-room_left Record at held i begun total h k = omega arith
-room_left (Explain row) at held i begun total h k = omega arith
-room_left ExplainAll at held i begun total h k = omega arith
+room_left : (form : Form) (start at held i begun total : ℕ) → at + spread form * held ≤ start + spread form * (begun + i) → i ≤ total
+    → at ≤ start + spread form * (begun + total)
+room_left Changes start at held i begun total h k = omega arith
+room_left Record start at held i begun total h k = omega arith
+room_left (Explain row) start at held i begun total h k = omega arith
+room_left ExplainAll start at held i begun total h k = omega arith
 
-line_fits : (form : Form) (at held count i next begun total : ℕ) → at + spread form * held ≤ spread form * (begun + i) → count + i ≡ held + next → next ≤ total
-    → at + spread form * count ≤ spread form * (begun + total)
-line_fits Changes at held count i next begun total h e k = omega arith
-line_fits Record at held count i next begun total h e k = omega arith
-line_fits (Explain row) at held count i next begun total h e k = omega arith
-line_fits ExplainAll at held count i next begun total h e k = omega arith
+line_fits : (form : Form) (start at held count i next begun total : ℕ) → at + spread form * held ≤ start + spread form * (begun + i) → count + i ≡ held + next → next ≤ total
+    → at + spread form * count ≤ start + spread form * (begun + total)
+line_fits Changes start at held count i next begun total h e k = omega arith
+line_fits Record start at held count i next begun total h e k = omega arith
+line_fits (Explain row) start at held count i next begun total h e k = omega arith
+line_fits ExplainAll start at held count i next begun total h e k = omega arith
 
-pub record FeedTurn (r : Replay) (p before : List ℕ) (i : ℕ) (s : Replay) (at : ℕ) (out : List ℕ) : Type 0 where
+pub record FeedTurn (r : Replay) (p : List ℕ) (before : Page) (i : ℕ) (s : Replay) (now : Page) : Type 0 where
   pub within : i ≤ length p
-  pub long : length out ≡ length before
+  pub same_buffer : now.out.ghost_name ≡ before.out.ghost_name
+  pub as_long : length now.out.now ≡ length before.out.now
   pub room : length s.cutter.held ≡ held_room
   pub short : s.cutter.count < line_limit
   pub same : s.form ≡ r.form
-  pub little : at + spread r.form * s.cutter.count ≤ spread r.form * (r.cutter.count + i)
+  pub little : now.at + spread r.form * s.cutter.count ≤ before.at + spread r.form * (r.cutter.count + i)
   pub state : fed r p ≡ fed s (drop i p)
-  pub place : length (writes r p) ≡ at + length (writes s (drop i p))
-  pub bytes : sets before 0 (writes r p) ≡ sets out at (writes s (drop i p))
+  pub place : before.at + length (writes r p) ≡ now.at + length (writes s (drop i p))
+  pub bytes : sets before.out.now before.at (writes r p) ≡ sets now.out.now now.at (writes s (drop i p))
 
-pub turn_first : (r : Replay) (p out : List ℕ) → length r.cutter.held ≡ held_room → r.cutter.count < line_limit → FeedTurn r p out 0 r 0 out
-turn_first r p out room short = record {
+pub turn_first : (r : Replay) (p : List ℕ) (page : Page) → length r.cutter.held ≡ held_room → r.cutter.count < line_limit → FeedTurn r p page 0 r page
+turn_first r p page room short = record {
   within = omega arith;
-  long = refl;
+  same_buffer = refl;
+  as_long = refl;
   room = room;
   short = short;
   same = refl;
   little = rw (add-zero r.cutter.count) (omega arith);
   state = refl;
-  place = omega arith;
+  place = refl;
   bytes = refl;
 }
 
-module _ (r : Replay) (p before : List ℕ) (i : ℕ) (s : Replay) (at : ℕ) (out : List ℕ) (turn : FeedTurn r p before i s at out) where
+module _ (r : Replay) (p : List ℕ) (before : Page) (i : ℕ) (s : Replay) (now : Page) (turn : FeedTurn r p before i s now) where
   -- where the rest writes nothing
-  over : (q : Replay) (x : Fed) → fed s (drop i p) ≡ q → writes s (drop i p) ≡ [] → x ≡ record { taken = true; state = q; written = at } → PortionFed r p before out x
-  over q x f none e =
-      let state : fed r p ≡ q = turn.state ∙ f in
-      let place : length (writes r p) ≡ at = turn.place ∙ rw none (add-zero at) in
+  over : (q : Replay) → fed s (drop i p) ≡ q → writes s (drop i p) ≡ [] → PortionFed r p before now q
+  over q f none =
+      let place : before.at + length (writes r p) ≡ now.at = turn.place ∙ rw none (add-zero now.at) in
+      let room = room_left r.form before.at now.at s.cutter.count i r.cutter.count (length p) turn.little turn.within in
       record {
-        answer = e ∙ rw (state, place);
-        output = sym (turn.bytes ∙ ap (sets out at) none);
-        within = rw e (room_left r.form at s.cutter.count i r.cutter.count (length p) turn.little turn.within);
+        state = sym (turn.state ∙ f);
+        put = record {
+          same_buffer = turn.same_buffer;
+          as_long = turn.as_long;
+          place_after = sym place;
+          output = sym (turn.bytes ∙ ap (sets now.out.now now.at) none);
+          short = omega (arith, place, room);
+        };
       }
 
-  pub turn_last : length p ≤ i → (x : Fed) → x ≡ record { taken = true; state = s; written = at } → PortionFed r p before out x
+  pub turn_last : length p ≤ i → PortionFed r p before now s
   unfolding fed writes cutting after_lines wrote_lines with_long held_after
-  turn_last l x e =
+  turn_last l =
       let none : drop i p ≡ [] = drop_of_length-le p l in
-      over s x (rw (none, add-zero s.cutter.count)) (rw none) e
+      over s (rw (none, add-zero s.cutter.count)) (rw none)
 
   module _ (more : i < length p) (k : PieceCut) (answer : k ≡ piece_answer CrLf line_limit s.cutter p i) where
     pub taken : PieceTaken CrLf line_limit s.cutter p i k
     taken = piece s p i turn.short turn.room k answer
 
-    -- the line has room in the output
-    pub line_room_law : at + spread r.form * k.cutter.count ≤ spread r.form * (r.cutter.count + length p)
+    line_long : length (held_line k.cutter) ≡ k.cutter.count
+    line_long = rw length-take (omega (arith, taken.fits, taken.room))
+
+    -- the line has room on the page
+    pub line_room_law : now.at + spread r.form * length (held_line k.cutter) ≤ before.at + spread r.form * (r.cutter.count + length p)
     line_room_law =
-        line_fits r.form at s.cutter.count k.cutter.count i k.next r.cutter.count (length p) turn.little taken.counted (taken.within more)
+        rw line_long (line_fits r.form before.at now.at s.cutter.count k.cutter.count i k.next r.cutter.count (length p) turn.little taken.counted (taken.within more))
 
-    pub turn_held : k.cut ≡ Held → (x : Fed) → x ≡ record { taken = true; state = record { form = s.form; progress = s.progress; cutter = k.cutter }; written = at } → PortionFed r p before out x
-    turn_held told x e =
-        over (record { form = s.form; progress = s.progress; cutter = k.cutter }) x (fed_held s p i turn.short turn.room k answer told) (wrote_held s p i turn.short turn.room k answer told) e
+    pub turn_held : k.cut ≡ Held → PortionFed r p before now (record { form = s.form; progress = s.progress; cutter = k.cutter })
+    turn_held told =
+        over (record { form = s.form; progress = s.progress; cutter = k.cutter }) (fed_held s p i turn.short turn.room k answer told) (wrote_held s p i turn.short turn.room k answer told)
 
-    -- a line too long is taken as far as it was read, and the rest is not looked at
-    pub turn_long : k.cut ≡ TooLong → (t : Noted) (out' : List ℕ)
-        → LineNoted (spread s.form * k.cutter.count) out out' at (after_line s.progress (held_line k.cutter)) (wrote_line s.form s.progress (held_line k.cutter)) t
-        → (x : Fed) → x ≡ record { taken = true; state = record { form = s.form; progress = t.progress; cutter = empty_cutter }; written = t.written } → PortionFed r p before out' x
-    turn_long told t out' n x e =
-        let q = next s p i turn.short turn.room k answer in
-        let w = wrote_line s.form s.progress (held_line k.cutter) in
-        let begun : record { form = s.form; progress = t.progress; cutter = empty_cutter } ≡ q = rw n.noted in
-        let state : fed r p ≡ q = turn.state ∙ fed_long s p i turn.short turn.room k answer told in
-        let wrote : writes s (drop i p) ≡ w = wrote_long s p i turn.short turn.room k answer told in
-        let place : t.written ≡ length (writes r p) = ap (λ (y : Noted). y.written) n.noted ∙ sym (turn.place ∙ rw wrote) in
-        record {
-          answer = e ∙ rw (begun, place, state);
-          output = n.output ∙ sym (turn.bytes ∙ ap (sets out at) wrote);
-          within = rw e (omega (arith, rw turn.same at n.short, line_room_law));
-        }
+    module _ (progress : Progress) (after : Page) (e : progress ≡ after_line s.progress (held_line k.cutter))
+        (put : Put (spread s.form * length (held_line k.cutter)) now after (wrote_line s.form s.progress (held_line k.cutter))) where
+      abbrev q : Replay
+      q = next s p i turn.short turn.room k answer
 
-    pub turn_closed : k.cut ≡ Closed → (t : Noted) (out' : List ℕ)
-        → LineNoted (spread s.form * k.cutter.count) out out' at (after_line s.progress (held_line k.cutter)) (wrote_line s.form s.progress (held_line k.cutter)) t
-        → FeedTurn r p before k.next (record { form = s.form; progress = t.progress; cutter = empty_cutter }) t.written out'
-    turn_closed told t out' n =
-        let q = next s p i turn.short turn.room k answer in
-        let w = wrote_line s.form s.progress (held_line k.cutter) in
-        let ws = writes q (drop k.next p) in
-        let begun : record { form = s.form; progress = t.progress; cutter = empty_cutter } ≡ q = rw n.noted in
-        let on : writes s (drop i p) ≡ w ++ ws = wrote_closed s p i turn.short turn.room k answer told in
-        let size : length (writes s (drop i p)) ≡ length w + length ws = ap length on ∙ length-append w ws in
-        let place : t.written ≡ at + length w = ap (λ (x : Noted). x.written) n.noted in
-        rw begun (record {
-          within = taken.within more;
-          long = rw (n.output, length-sets) turn.long;
-          room = refl;
-          short = omega arith;
-          same = turn.same;
-          little = omega (arith, rw turn.same at n.short, line_fits r.form at s.cutter.count k.cutter.count i k.next r.cutter.count k.next turn.little taken.counted (omega arith));
-          state = turn.state ∙ fed_closed s p i turn.short turn.room k answer told;
-          place = omega (arith, turn.place, size, place);
-          bytes = turn.bytes ∙ ap (sets out at) on ∙ sets_append out at w ws ∙ rw (n.output, place);
-        })
+      abbrev w : List ℕ
+      w = wrote_line s.form s.progress (held_line k.cutter)
+
+      begun : record { form = s.form; progress = progress; cutter = empty_cutter } ≡ q
+      begun = rw e
+
+      line_short : length w ≤ spread r.form * length (held_line k.cutter)
+      line_short =
+          let same : spread s.form * length (held_line k.cutter) ≡ spread r.form * length (held_line k.cutter) = ap (λ (f : Form). spread f * length (held_line k.cutter)) turn.same in
+          omega (arith, same, put.short)
+
+      -- a line too long is taken as far as it was read, and the rest is not looked at
+      pub turn_long : k.cut ≡ TooLong → PortionFed r p before after (record { form = s.form; progress = progress; cutter = empty_cutter })
+      turn_long told =
+          let wrote : writes s (drop i p) ≡ w = wrote_long s p i turn.short turn.room k answer told in
+          let place : before.at + length (writes r p) ≡ now.at + length w = turn.place ∙ rw wrote in
+          record {
+            state = begun ∙ sym (turn.state ∙ fed_long s p i turn.short turn.room k answer told);
+            put = record {
+              same_buffer = put.same_buffer ∙ turn.same_buffer;
+              as_long = put.as_long ∙ turn.as_long;
+              place_after = put.place_after ∙ sym place;
+              output = put.output ∙ sym (turn.bytes ∙ ap (sets now.out.now now.at) wrote);
+              short = omega (arith, place, line_short, line_room_law);
+            };
+          }
+
+      pub turn_closed : k.cut ≡ Closed → FeedTurn r p before k.next (record { form = s.form; progress = progress; cutter = empty_cutter }) after
+      turn_closed told =
+          let ws = writes q (drop k.next p) in
+          let on : writes s (drop i p) ≡ w ++ ws = wrote_closed s p i turn.short turn.room k answer told in
+          let size : length (writes s (drop i p)) ≡ length w + length ws = ap length on ∙ length-append w ws in
+          let here = line_fits r.form before.at now.at s.cutter.count k.cutter.count i k.next r.cutter.count k.next turn.little taken.counted (omega arith) in
+          rw begun (record {
+            within = taken.within more;
+            same_buffer = put.same_buffer ∙ turn.same_buffer;
+            as_long = put.as_long ∙ turn.as_long;
+            room = refl;
+            short = omega arith;
+            same = turn.same;
+            little = omega (arith, rw line_long at line_short, put.place_after, here);
+            state = turn.state ∙ fed_closed s p i turn.short turn.room k answer told;
+            place = omega (arith, turn.place, size, put.place_after);
+            bytes = turn.bytes ∙ ap (sets now.out.now now.at) on ∙ sets_append now.out.now now.at w ws ∙ rw (put.output, put.place_after);
+          })

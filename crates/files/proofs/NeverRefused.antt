@@ -1,5 +1,7 @@
 -- No tick of a replay is refused: a replay that begins fresh has accepted settings and a valid state at each row.
 -- Assumes nothing.
+use Rattle.std.specs.Prelude.{Result, Ok, Err, Some, None}
+use Rattle.rows.specs.declared.refusal.Refusal.{Refusal}
 use Prim.Native.Nat.{ℕ, ◌≤◌}
 use mathlib.Core.Bool.{true}
 use mathlib.Core.List.{List, [], ◌∷◌}
@@ -11,17 +13,11 @@ use Rattle.relay.specs.State.{clear_relay, valid_relay}
 use Rattle.relay.specs.declared.tick.RelayTicked.{RelayTicked}
 use Rattle.relay.specs.Tick.{relay_tick_refusal}
 use Rattle.relay.proofs.RelayLaws.{clear_relay_is_valid, relay_tick_allowed, relay_tick_accepted, relay_tick_keeps_valid}
-use Rattle.config.specs.declared.reader.ConfigRead.TheVariants as config_read
-use Rattle.steps.specs.declared.configuration.Configuration.{Configuration}
-use Rattle.steps.specs.declared.configuration.Configuration.TheVariants.{Absent, Given}
+use Rattle.steps.specs.Configuration.{Configuration}
 use Rattle.steps.specs.declared.progress.Progress.{Progress}
 use Rattle.steps.specs.declared.progress.Stage.{Stage}
 use Rattle.steps.specs.declared.progress.Stage.TheVariants.{Opening, Running, Stopped}
 use Rattle.rows.specs.declared.row.Row.{Row}
-use Rattle.rows.specs.declared.row.RowRead.{RowRead}
-use Rattle.rows.specs.declared.row.RowRead.TheVariants as row
-use Rattle.rows.specs.declared.settings_line.SettingsRead.{SettingsRead}
-use Rattle.rows.specs.declared.settings_line.SettingsRead.TheVariants as settings_line
 use Rattle.steps.specs.Configuration.{after_settings}
 use Rattle.steps.specs.Progress.{fresh_progress, opened, ticked, row_done, after_tick, stepped, after_by, after_line}
 use Rattle.files.specs.Replay.{after_lines}
@@ -40,31 +36,31 @@ Right (Stopped n) p = Unit {0}
 
 -- a configuration changes nothing but the stage
 settings_right : (c : Configuration) (p : Progress) → Right Running p → Right (after_settings c) p
-settings_right Absent p right = right
-settings_right (Given (config_read.Accepted last)) p right = right
-settings_right (Given (config_read.Refused x)) p right = tt
+settings_right None p right = right
+settings_right (Some (Ok last)) p right = right
+settings_right (Some (Err x)) p right = tt
 
-opened_right : (p : Progress) (answer : SettingsRead) → p.relay ≡ clear_relay → ((x : Settings) → answer ≡ settings_line.Accepted x → settings_refusal x ≡ 0) → Right (opened p answer).stage (opened p answer)
-opened_right p (settings_line.Accepted x) e h =
-    settings_right p.configuration (opened p (settings_line.Accepted x)) (h x refl, rw e (clear_relay_is_valid x))
-opened_right p (settings_line.Refused n) e h = tt
+opened_right : (p : Progress) (answer : Result Settings Refusal) → p.relay ≡ clear_relay → ((x : Settings) → answer ≡ Ok x → settings_refusal x ≡ 0) → Right (opened p answer).stage (opened p answer)
+opened_right p (Ok x) e h =
+    settings_right p.configuration (opened p (Ok x)) (h x refl, rw e (clear_relay_is_valid x))
+opened_right p (Err n) e h = tt
 
-tick_right : (p : Progress) (x : Row) → Right Running p → x.block ≤ 1 → relay_tick_refusal p.settings p.relay x.block ≡ 0
-tick_right p x right h = relay_tick_allowed p.settings p.relay x.block right.0 right.1 h
+tick_right : (p : Progress) (x : Row) → Right Running p → x.sample.block ≤ 1 → relay_tick_refusal p.settings p.relay x.sample.block ≡ 0
+tick_right p x right h = relay_tick_allowed p.settings p.relay x.sample.block right.0 right.1 h
 
-tick_is_accepted : (p : Progress) (x : Row) → Right Running p → x.block ≤ 1 → (ticked p x).refusal ≡ 0
+tick_is_accepted : (p : Progress) (x : Row) → Right Running p → x.sample.block ≤ 1 → (ticked p x).refusal ≡ 0
 tick_is_accepted p x right h =
-    ap (λ (t : RelayTicked). t.refusal) (relay_tick_accepted p.settings p.relay x.l1 x.l2 x.l3 x.block (tick_right p x right h))
+    ap (λ (t : RelayTicked). t.refusal) (relay_tick_accepted p.settings p.relay x.sample.l1 x.sample.l2 x.sample.l3 x.sample.block (tick_right p x right h))
 
 -- an accepted row is done
-done_right : (p : Progress) (x : Row) → Right Running p → x.block ≤ 1 → after_tick p (ticked p x) ≡ row_done p (ticked p x)
+done_right : (p : Progress) (x : Row) → Right Running p → x.sample.block ≤ 1 → after_tick p (ticked p x) ≡ row_done p (ticked p x)
 done_right p x right h = rw (eq-eqb (ticked p x).refusal 0 (tick_is_accepted p x right h))
 
-stepped_right : (p : Progress) (answer : RowRead) → Right Running p → ((x : Row) → answer ≡ row.Accepted x → x.block ≤ 1) → Right (stepped p answer).stage (stepped p answer)
-stepped_right p (row.Accepted x) right h =
+stepped_right : (p : Progress) (answer : Result Row Refusal) → Right Running p → ((x : Row) → answer ≡ Ok x → x.sample.block ≤ 1) → Right (stepped p answer).stage (stepped p answer)
+stepped_right p (Ok x) right h =
     rw (done_right p x right (h x refl))
-    (right.0, relay_tick_keeps_valid p.settings p.relay x.l1 x.l2 x.l3 x.block (tick_right p x right (h x refl)) right.1)
-stepped_right p (row.Refused n) right h = tt
+    (right.0, relay_tick_keeps_valid p.settings p.relay x.sample.l1 x.sample.l2 x.sample.l3 x.sample.block (tick_right p x right (h x refl)) right.1)
+stepped_right p (Err n) right h = tt
 
 line_keeps : (stage : Stage) (p : Progress) (l : List ℕ) → p.stage ≡ stage → Right stage p → let q : Progress = after_by stage p l in Right q.stage q
 unfolding after_by
@@ -82,12 +78,12 @@ module _ (c : Configuration) (ls : List (List ℕ)) (l : List ℕ) (x : Row) whe
   abbrev reached : Progress
   reached = after_lines (fresh_progress c) ls
 
-  module _ (running : reached.stage ≡ Running) (e : row_answer l reached.done ≡ row.Accepted x) where
+  module _ (running : reached.stage ≡ Running) (e : row_answer l reached.done ≡ Ok x) where
     right_reached : Right Running reached
     right_reached = rw running at (lines_keep (fresh_progress c) ls refl)
 
     -- its settings, state and block are accepted ones
-    pub row_allowed : (settings_refusal reached.settings ≡ 0) × (valid_relay reached.settings reached.relay ≡ true) × (x.block ≤ 1)
+    pub row_allowed : (settings_refusal reached.settings ≡ 0) × (valid_relay reached.settings reached.relay ≡ true) × (x.sample.block ≤ 1)
     row_allowed = (right_reached.0, right_reached.1, (accepted_row l reached.done x e).block)
 
     pub no_tick_refused : (ticked reached x).refusal ≡ 0

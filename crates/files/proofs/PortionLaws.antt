@@ -8,7 +8,7 @@ use native.Mathlib.Omega.{arith}
 use lib.Dec.{ltb}
 use lib.ListN.{length, length-take}
 use borrow.Author.Tests.{leb-true, ltb-true, ltb-false}
-use Rattle.steps.specs.declared.configuration.Configuration.{Configuration}
+use Rattle.steps.specs.Configuration.{Configuration}
 use Rattle.steps.specs.declared.output.Form.{Form}
 use Rattle.steps.specs.declared.output.Form.TheVariants.{Changes, Record, Explain, ExplainAll}
 use Rattle.steps.specs.declared.progress.Stage.{Stage}

@@ -1,6 +1,9 @@
 -- A line does one row at most; and in an explanation every row is quiet but the asked one: the lines before it and after it
 -- write nothing.
 -- Assumes nothing.
+use Rattle.std.specs.Prelude.{Result, Ok, Err}
+use Rattle.rows.specs.declared.refusal.Refusal.{Refusal}
+use Rattle.phase.specs.declared.settings.Settings.{Settings}
 use Prim.Native.Nat.{ℕ, ◌+◌, ◌≤◌, ◌<◌}
 use native.Mathlib.Omega.{arith}
 use mathlib.Core.Bool.{Bool, true, false, cond}
@@ -10,10 +13,6 @@ use borrow.Author.Tests.{ne_eqb}
 use lib.Dec.{eqb}
 use Rattle.relay.specs.declared.tick.RelayTicked.{RelayTicked}
 use Rattle.rows.specs.declared.row.Row.{Row}
-use Rattle.rows.specs.declared.row.RowRead.{RowRead}
-use Rattle.rows.specs.declared.row.RowRead.TheVariants as row_read
-use Rattle.rows.specs.declared.settings_line.SettingsRead.{SettingsRead}
-use Rattle.rows.specs.declared.settings_line.SettingsRead.TheVariants as settings_line
 use Rattle.rows.specs.Refusal.{without_place}
 use Rattle.rows.specs.Row.{row_answer}
 use Rattle.rows.specs.SettingsLine.{settings_line_answer}
@@ -32,17 +31,17 @@ pub record OneMore (before after : ℕ) : Type 0 where
   pub high : after ≤ before + 1
 
 -- a settings line does none
-pub opened_done : (p : Progress) (answer : SettingsRead) → (opened p answer).done ≡ p.done
-opened_done p (settings_line.Accepted x) = refl
-opened_done p (settings_line.Refused x) = refl
+pub opened_done : (p : Progress) (answer : Result Settings Refusal) → (opened p answer).done ≡ p.done
+opened_done p (Ok x) = refl
+opened_done p (Err x) = refl
 
 done_if : (b : Bool) (p : Progress) (t : RelayTicked) → OneMore p.done (cond b (row_done p t) (stopped (without_place t.refusal) p)).done
 done_if true p t = record { low = omega arith; high = omega arith }
 done_if false p t = record { low = omega arith; high = omega arith }
 
-stepped_done : (p : Progress) (answer : RowRead) → OneMore p.done (stepped p answer).done
-stepped_done p (row_read.Accepted x) = done_if (eqb (ticked p x).refusal 0) p (ticked p x)
-stepped_done p (row_read.Refused x) = record { low = omega arith; high = omega arith }
+stepped_done : (p : Progress) (answer : Result Row Refusal) → OneMore p.done (stepped p answer).done
+stepped_done p (Ok x) = done_if (eqb (ticked p x).refusal 0) p (ticked p x)
+stepped_done p (Err x) = record { low = omega arith; high = omega arith }
 
 pub line_done : (g : Stage) (p : Progress) (l : List ℕ) → OneMore p.done (after_by g p l).done
 unfolding after_by
@@ -63,9 +62,9 @@ module _ (row : ℕ) where
   quiet_if true p x t h = rw (ne_eqb (p.done + 1) row (λ e. omega (arith, e, h (omega (arith, e)))))
   quiet_if false p x t h = refl
 
-  quiet_row : (p : Progress) (answer : RowRead) → (p.done < row → (stepped p answer).done < row) → noted (Explain row) p answer ≡ []
-  quiet_row p (row_read.Accepted x) h = quiet_if (eqb (ticked p x).refusal 0) p x (ticked p x) h
-  quiet_row p (row_read.Refused y) h = refl
+  quiet_row : (p : Progress) (answer : Result Row Refusal) → (p.done < row → (stepped p answer).done < row) → noted (Explain row) p answer ≡ []
+  quiet_row p (Ok x) h = quiet_if (eqb (ticked p x).refusal 0) p x (ticked p x) h
+  quiet_row p (Err y) h = refl
 
   quiet_line : (g : Stage) (p : Progress) (l : List ℕ) → (p.done < row → (after_by g p l).done < row) → wrote_by g (Explain row) p l ≡ []
   unfolding after_by wrote_by

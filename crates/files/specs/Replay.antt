@@ -2,14 +2,13 @@
 -- portions answers. The laws `replay_of_calls`, `record_of_calls`, `explanation_of_calls` and `configured_replay_of_calls` say
 -- that the bytes so written, one after the other, are those of `replay_of`, `record_of`, `explanation_of` and `configured_replay_of`,
 -- however the input is cut.
-use Rattle.std.specs.Prelude.{◌≡◌, Bool, true, false, ◌&&◌, List, [], ◌∷◌, ◌++◌, ℕ, ◌+◌, ◌*◌, leb, ltb, length}
+use Rattle.std.specs.Prelude.{◌≡◌, Bool, true, false, ◌&&◌, List, [], ◌∷◌, ◌++◌, ℕ, ◌+◌, ◌*◌, leb, ltb, length, Some, None}
 use Rattle.text.specs.declared.lines.Closer.TheVariants.{CrLf}
 use Rattle.text.specs.Lines.{lines_of, Cutting, cutting}
 use Rattle.text.specs.Cutter.{empty_cutter, held_line, cutter_after}
 use Rattle.config.specs.Config.{config_of}
 use Rattle.rows.specs.declared.refusal.Refusal.{Refusal}
-use Rattle.steps.specs.declared.configuration.Configuration.{Configuration}
-use Rattle.steps.specs.declared.configuration.Configuration.TheVariants.{Absent, Given}
+use Rattle.steps.specs.Configuration.{Configuration}
 use Rattle.steps.specs.declared.output.Form.{Form}
 use Rattle.steps.specs.declared.output.Form.TheVariants.{Changes, Record, Explain, ExplainAll}
 use Rattle.steps.specs.declared.progress.Stage.{Stage}
@@ -49,23 +48,23 @@ notes_and_end x = x.notes ++ x.end
 
 -- WHAT THE REPLAY WRITES, of its whole input
 abbrev pub replay_of : List ℕ → List ℕ
-replay_of s = notes_and_end (told_of Changes Absent s)
+replay_of s = notes_and_end (told_of Changes None s)
 
 -- WHAT THE REPLAY WRITES WITH A CONFIGURATION, of that file and its whole input
 abbrev pub configured_replay_of : List ℕ → List ℕ → List ℕ
-configured_replay_of c s = notes_and_end (told_of Changes (Given (config_of c)) s)
+configured_replay_of c s = notes_and_end (told_of Changes (Some (config_of c)) s)
 
 -- WHAT THE PROGRAM `record` WRITES, of its whole input: a row of the record for each row done
 abbrev pub record_of : List ℕ → List ℕ
-record_of s = (told_of Record Absent s).notes
+record_of s = (told_of Record None s).notes
 
 -- WHAT THE PROGRAM `explain` WRITES for a row, of its whole input: the explanation of that row, where it is done
 abbrev pub explanation_of : ℕ → List ℕ → List ℕ
-explanation_of row s = (told_of (Explain row) Absent s).notes
+explanation_of row s = (told_of (Explain row) None s).notes
 
 -- WHAT IT WRITES WHERE EVERY ROW IS ASKED FOR: the explanation of each row done
 abbrev pub explanations_of : List ℕ → List ℕ
-explanations_of s = (told_of ExplainAll Absent s).notes
+explanations_of s = (told_of ExplainAll None s).notes
 
 -- ---- a state: the form, the progress, and the cutter that holds the line that has begun
 

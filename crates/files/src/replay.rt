@@ -1,21 +1,20 @@
 // The replay fed by portions of its input.
-ghost use Rattle.std.specs.Prelude.{◌≡◌, List, ℕ, ◌+◌, ◌*◌, ◌/◌, ◌≤◌, ◌<◌, length, take};
+ghost use Rattle.std.specs.Prelude.{◌≡◌, ◌+◌, ◌/◌, ◌≤◌, ◌<◌, length};
 ghost use Rattle.std.proofs.lemmas.List.Edits.{sets};
 ghost use Rattle.files.specs.Replay.{line_limit, fresh_replay, portion_room, takes, feed_answer, feed_writes};
 ghost use Rattle.files.specs.Replay.{last_progress, refusal_at_end, finish_writes, is_stopped, is_answered};
 ghost use Rattle.steps.specs.Output.{spread};
-ghost use Rattle.steps.specs.Progress.{after_line, wrote_line};
-ghost use Rattle.steps.specs.device.Calls.{LineNoted};
-ghost use Rattle.files.specs.device.Calls.{taken_with, PortionFed};
+ghost use Rattle.files.specs.device.Calls.{PortionFed};
 
 use crate::ahead::run_ahead;
 use rows::Refusal;
 use steps::{
-    Configuration, END_ROOM, EXPLAIN_SPREAD, Form, Noted, Progress, RECORD_SPREAD, Stage,
-    after_held, end_refusal, on_end, on_line,
+    Configuration, END_ROOM, EXPLAIN_SPREAD, Form, Progress, RECORD_SPREAD, Stage, after_held,
+    end_refusal, on_end, on_line,
 };
 use text::cutter::Cutter;
 use text::lines::{Closer, Cut};
+use text::page::Page;
 
 // A row has at most so many bytes, and a settings line fewer.
 pub const LONGEST_LINE: usize = 45;
@@ -31,7 +30,8 @@ pub struct Replay {
     pub cutter: Cutter,
 }
 
-// Whether the portion was taken, the state after it, and how many bytes it wrote.
+// Whether the portion was taken, the state after it, and how many bytes it wrote. No Result: a portion that is not taken hands back
+// its state (`feed_answer`), and `docs/SHEET.md` tells the flag.
 #[derive(Clone, Copy)]
 pub struct Fed {
     pub taken: bool,
@@ -43,80 +43,60 @@ impl Replay {
     pub fn fresh(form: Form, configuration: Configuration) -> Self
         ensures { result ≡ fresh_replay form configuration }
     {
-        let progress = Progress::fresh(configuration);
-        let cutter = Cutter::empty();
         Replay {
             form,
-            progress,
-            cutter,
+            progress: Progress::fresh(configuration),
+            cutter: Cutter::empty(),
         }
     }
-}
-
-fn taken(form: Form, progress: Progress, cutter: Cutter, written: usize) -> Fed
-    ensures { result ≡ taken_with form progress cutter written }
-{
-    let state = Replay {
-        form,
-        progress,
-        cutter,
-    };
-    Fed {
-        taken: true,
-        state,
-        written,
-    }
-}
-
-// The line of the first n bytes held. (A part of an array that is a field can't be lent: the part is made here.)
-fn on_held(form: Form, p: Progress, held: &[u8], n: usize, out: &mut [u8], at: usize) -> Noted
-    requires { (n ≤ length held.now) × (at + spread form * n ≤ length out.old) }
-    ensures { let l : List ℕ = take n held.now in
-        LineNoted (spread form * n) out.old out.new at (after_line p l) (wrote_line form p l) result }
-{
-    on_line(form, p, &held[..n], out, at)
 }
 
 // The bytes of a portion, line by line: after a line that is closed the rows that stand whole are run ahead. What follows a line
 // that is too long is not looked at.
-fn feed_bytes(state: Replay, portion: &[u8], out: &mut [u8]) -> Fed
-    requires { (state.cutter.count < line_limit) × (portion_room state.form state.cutter.count (length portion.now) ≤ length out.old) }
-    ensures { PortionFed state portion.now out.old out.new result }
+fn feed_bytes(state: Replay, portion: &[u8], page: &mut Page) -> Replay
+    requires { (state.cutter.count < line_limit)
+        × (page.old.at + portion_room state.form state.cutter.count (length portion.now) ≤ length page.old.out.now) }
+    ensures { PortionFed state portion.now page.old page.new result }
 {
-    let form = state.form;
-    let mut progress = state.progress;
-    let mut cutter = state.cutter;
+    let Replay {
+        form,
+        mut progress,
+        mut cutter,
+    } = state;
     let mut i = 0;
-    let mut at = 0;
     while i < portion.len() {
         let piece = cutter.cut(portion, i, LINE_LIMIT, Closer::CrLf);
         cutter = piece.cutter;
         i = piece.next;
-        let cut = piece.cut;
-        match cut {
+        match piece.cut {
             Cut::Held => {
-                return taken(form, progress, cutter, at);
+                return Replay {
+                    form,
+                    progress,
+                    cutter,
+                };
             }
             Cut::Closed => {
-                let n = cutter.count;
-                let t = on_held(form, progress, &cutter.held, n, out, at);
-                let ahead = run_ahead(form, t.progress, portion, i, out, t.written);
-                let after = ahead.progress;
-                progress = after;
+                let after = on_line(form, progress, cutter.line(), page);
+                let ahead = run_ahead(form, after, portion, i, page);
+                progress = ahead.reached;
                 i = ahead.next;
-                at = ahead.written;
                 cutter = Cutter::empty();
-                continue;
             }
             Cut::TooLong => {
-                let n = cutter.count;
-                let t = on_held(form, progress, &cutter.held, n, out, at);
-                let after = t.progress;
-                return taken(form, after, Cutter::empty(), t.written);
+                return Replay {
+                    form,
+                    progress: on_line(form, progress, cutter.line(), page),
+                    cutter: Cutter::empty(),
+                };
             }
         }
     }
-    taken(form, progress, cutter, at)
+    Replay {
+        form,
+        progress,
+        cutter,
+    }
 }
 
 // How many bytes of input an output of `room` bytes has room for.
@@ -149,15 +129,19 @@ pub fn feed(state: Replay, portion: &[u8], out: &mut [u8]) -> Fed
     ensures output { out.new ≡ sets out.old 0 (feed_writes state portion.now (length out.old)) }
     ensures within { result.written ≤ length out.new }
 {
-    let form = state.form;
-    let count = state.cutter.count;
-    if takes_portion(form, count, portion, out.len()) {
-        return feed_bytes(state, portion, out);
+    if !takes_portion(state.form, state.cutter.count, portion, out.len()) {
+        return Fed {
+            taken: false,
+            state,
+            written: 0,
+        };
     }
+    let mut page = Page { out, at: 0 };
+    let state = feed_bytes(state, portion, &mut page);
     Fed {
-        taken: false,
+        taken: true,
         state,
-        written: 0,
+        written: page.at,
     }
 }
 
@@ -166,20 +150,17 @@ fn last_progress(state: Replay) -> Progress
     ensures { result ≡ last_progress state }
 {
     let count = state.cutter.count;
-    let progress = state.progress;
     if count == 0 {
-        return progress;
+        return state.progress;
     }
-    let cutter = state.cutter;
-    after_held(progress, &cutter.held, count)
+    after_held(state.progress, &state.cutter.held, count)
 }
 
 // What the end line that `finish` writes tells the number of.
 pub fn refusal_at_end(state: Replay) -> Refusal
     ensures { result ≡ refusal_at_end state }
 {
-    let last = last_progress(state);
-    end_refusal(last)
+    end_refusal(last_progress(state))
 }
 
 // Ends the input: writes the end line at the front of `out` and answers its length. Where `out` has less than END_ROOM
@@ -192,33 +173,21 @@ pub fn finish(state: Replay, out: &mut [u8]) -> usize
     if out.len() < END_ROOM {
         return 0;
     }
-    let last = last_progress(state);
-    on_end(last, out)
+    let mut page = Page { out, at: 0 };
+    on_end(last_progress(state), &mut page);
+    page.at
 }
 
 // Whether the replay has stopped: what follows of the input changes nothing any more.
 pub fn has_stopped(state: Replay) -> bool
     ensures { result ≡ is_stopped state.progress.stage }
 {
-    let progress = state.progress;
-    let stage = progress.stage;
-    match stage {
-        Stage::Opening => false,
-        Stage::Running => false,
-        Stage::Stopped(_) => true,
-    }
+    matches!(state.progress.stage, Stage::Stopped(_))
 }
 
 // Whether the rows done have come to the one that was asked for: what follows of the input writes nothing any more.
 pub fn has_answered(state: Replay) -> bool
     ensures { result ≡ is_answered state.form state.progress.done }
 {
-    let form = state.form;
-    let done = state.progress.done;
-    match form {
-        Form::Changes => false,
-        Form::Record => false,
-        Form::Explain(row) => row <= done,
-        Form::ExplainAll => false,
-    }
+    matches!(state.form, Form::Explain(row) if row <= state.progress.done)
 }

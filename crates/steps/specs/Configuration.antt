@@ -8,7 +8,7 @@ use Rattle.rows.specs.Refusal.{without_place}
 use Rattle.steps.specs.Refusals.{wrong_last_sample}
 
 -- none, or what the reader of one answered
-abbrev pub Configuration : Type 1
+abbrev pub Configuration : Type 0
 Configuration = Option (Result ℕ Fault)
 
 -- "In the replay a refused file gives only `end,0,` and its number, looked at after the settings line."

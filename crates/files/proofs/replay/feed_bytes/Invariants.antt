@@ -6,7 +6,7 @@ use Rattle.files.proofs.FeedLaws.{FeedTurn}
 use Rattle.files.proofs.replay.feed_bytes.Given as goal
 
 abbrev pub invariant-loop-i : goal.invariant-loop-i
-invariant-loop-i l = FeedTurn (record { form = l.form; progress = l.initial.progress; cutter = l.initial.cutter }) l.portion l.initial.out l.i (record { form = l.form; progress = l.progress; cutter = l.cutter }) l.at l.out
+invariant-loop-i l = FeedTurn (record { form = l.form; progress = l.initial.progress; cutter = l.initial.cutter }) l.portion l.initial.page l.i (record { form = l.form; progress = l.progress; cutter = l.cutter }) l.page
 
 abbrev pub decreases-loop-i : goal.decreases-loop-i
 decreases-loop-i l = length l.portion - l.i
