@@ -1,6 +1,6 @@
-use Rattle.std.specs.Prelude.{Some, None}
+use Rattle.std.specs.Prelude.{None}
 use Rattle.rows.proofs.FrontRowLaws.{AtFront, at_front}
-use mathlib.Core.Path.{◌≡◌, sym, ◌∙◌}
+use mathlib.Core.Path.{sym, ◌∙◌}
 use Rattle.files.proofs.AheadLaws.{front_room_law, front_number, rows_first, rows_again, ready_again, rows_room}
 use native.Mathlib.Omega.{arith}
 use Rattle.files.proofs.ahead.run_rows.Goals as goal
