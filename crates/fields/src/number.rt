@@ -89,7 +89,8 @@ fn value_to_large(s: &[u8]) -> u64
     value
 }
 
-// A decimal without its sign.
+// A decimal without its sign. (What stands before a mark and what may stand after it, here and in the two below: a function over both
+// tests is no plainer, as its contract has to say of each closure what the line says.)
 fn is_unsigned_decimal(s: &[u8]) -> bool
     ensures { result ≡ is_unsigned_decimal s.now }
 {
