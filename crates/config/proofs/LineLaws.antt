@@ -15,7 +15,7 @@ use Rattle.text.specs.Number.{leading, value_of}
 use Rattle.text.specs.Line.{comma, ends_cr_lf, body, fields_in}
 use Rattle.text.proofs.ShapeLaws.{ends_long}
 use Rattle.fields.specs.declared.field.Field.{Field}
-use Rattle.fields.specs.declared.field.Field.TheVariants.{Whole, Decimal}
+use Rattle.fields.specs.declared.field.Field.TheVariants.{Decimal}
 use Rattle.fields.specs.Marks.{has, before, after, unspaced, all_printable}
 use Rattle.fields.specs.Field.{fits_field}
 use Rattle.config.specs.Config.{rate_fields}
@@ -25,7 +25,7 @@ use Rattle.config.specs.Line.{longest_line, is_right, fit_all}
 use Rattle.config.specs.declared.shape.Shape.{Shape as KeptShape}
 use Rattle.config.specs.device.Layout.{kept, any_field}
 use native.Mathlib.Numerals.{add-one}
-use Rattle.config.specs.Shape.{Shape, shapes, no_shape, shape_at}
+use Rattle.config.specs.Shape.{whole, Shape, shapes, no_shape, shape_at}
 use Rattle.fields.specs.device.Calls.{MarkFound, Leads, readable}
 use Rattle.config.specs.device.Calls.{FieldEnds, all_readable}
 use Rattle.fields.proofs.NumberLaws.{whole_leading}
@@ -191,21 +191,21 @@ module _ (s : List ℕ) (ks : List Field) where
 
 module _ (s : List ℕ) (right : fit_all rate_fields (fields_in s) ≡ true) where
   two_fields : (t : Bool) → fit_all rate_fields (cond t (before comma comma s ∷ fields_in (after comma comma s)) (s ∷ [])) ≡ true
-      → (t ≡ true) × (fit_all (Whole 1 10 1 9999999999 ∷ []) (fields_in (after comma comma s)) ≡ true)
+      → (t ≡ true) × (fit_all (whole 1 10 1 9999999999 ∷ []) (fields_in (after comma comma s)) ≡ true)
   unfolding fit_all
   two_fields true h = (refl, (both_true (fits_field (Decimal 1000) (before comma comma s)) _ h).1)
   two_fields false h = absurd (not_both false (sym (and-false (fits_field (Decimal 1000) s)) ∙ h) refl)
 
-  both_there : (has comma comma s ≡ true) × (fit_all (Whole 1 10 1 9999999999 ∷ []) (fields_in (after comma comma s)) ≡ true)
+  both_there : (has comma comma s ≡ true) × (fit_all (whole 1 10 1 9999999999 ∷ []) (fields_in (after comma comma s)) ≡ true)
   both_there = two_fields (has comma comma s) (ap (fit_all rate_fields) (sym (fields_split s)) ∙ right)
 
   abbrev second : List ℕ
   second = after comma comma s
 
   abbrev second_fits : List ℕ → Bool
-  second_fits f = fits_field (Whole 1 10 1 9999999999) f
+  second_fits f = fits_field (whole 1 10 1 9999999999) f
 
-  one_field : (t : Bool) → fit_all (Whole 1 10 1 9999999999 ∷ []) (cond t (before comma comma second ∷ fields_in (after comma comma second)) (second ∷ [])) ≡ true
+  one_field : (t : Bool) → fit_all (whole 1 10 1 9999999999 ∷ []) (cond t (before comma comma second ∷ fields_in (after comma comma second)) (second ∷ [])) ≡ true
       → (t ≡ false) × (second_fits second ≡ true)
   unfolding fit_all
   one_field true h =
@@ -215,7 +215,7 @@ module _ (s : List ℕ) (right : fit_all rate_fields (fields_in s) ≡ true) whe
   one_field false h = (refl, (both_true (second_fits second) true h).0)
 
   second_alone : (has comma comma second ≡ false) × (second_fits second ≡ true)
-  second_alone = one_field (has comma comma second) (ap (fit_all (Whole 1 10 1 9999999999 ∷ [])) (sym (fields_split second)) ∙ both_there.1)
+  second_alone = one_field (has comma comma second) (ap (fit_all (whole 1 10 1 9999999999 ∷ [])) (sym (fields_split second)) ∙ both_there.1)
 
   second_is : get_or (fields_in s) 1 [] ≡ second
   second_is = rw (fields_split s, both_there.0, fields_split second, second_alone.0)

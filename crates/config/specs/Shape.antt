@@ -9,12 +9,16 @@ pub record Shape : Type 0 where
   pub number : ℕ
   pub fields : List Field
 
+-- so many digits, and a value from one number to another
+abbrev pub whole : ℕ → ℕ → ℕ → ℕ → Field
+whole least most low high = Whole (record { least = least; most = most; low = low; high = high })
+
 abbrev pub shape : ℕ → List Field → Shape
 shape number fields = record { number = number; fields = fields }
 
 -- index, name, phase, component
 abbrev pub channel : ℕ → List Field → List Field
-channel index more = Whole 1 6 index index ∷ Text 0 64 ∷ Text 0 2 ∷ Text 0 64 ∷ more
+channel index more = whole 1 6 index index ∷ Text 0 64 ∷ Text 0 2 ∷ Text 0 64 ∷ more
 
 -- unit, a, b, skew, min, max, primary, secondary, P or S
 abbrev pub analogue_fields : ℕ → List Field
@@ -24,15 +28,15 @@ analogue_fields index =
 
 abbrev pub shapes : List Shape
 shapes =
-    shape refusals.station (Text 0 64 ∷ Text 0 64 ∷ Whole 4 4 1999 1999 ∷ [])
-    ∷ shape refusals.channel_counts (Whole 1 7 4 4 ∷ Channels 3 65 ∷ Channels 1 68 ∷ [])
+    shape refusals.station (Text 0 64 ∷ Text 0 64 ∷ whole 4 4 1999 1999 ∷ [])
+    ∷ shape refusals.channel_counts (whole 1 7 4 4 ∷ Channels 3 65 ∷ Channels 1 68 ∷ [])
     ∷ shape refusals.analogue (analogue_fields 1)
     ∷ shape refusals.analogue (analogue_fields 2)
     ∷ shape refusals.analogue (analogue_fields 3)
-    ∷ shape refusals.status (channel 1 (Whole 1 1 0 1 ∷ []))
+    ∷ shape refusals.status (channel 1 (whole 1 1 0 1 ∷ []))
     ∷ shape refusals.frequency (NumberOrNothing ∷ [])
-    ∷ shape refusals.number_of_rates (Whole 1 3 1 1 ∷ [])
-    ∷ shape refusals.rate (Decimal 1000 ∷ Whole 1 10 1 9999999999 ∷ [])
+    ∷ shape refusals.number_of_rates (whole 1 3 1 1 ∷ [])
+    ∷ shape refusals.rate (Decimal 1000 ∷ whole 1 10 1 9999999999 ∷ [])
     ∷ shape refusals.date (Date ∷ Time ∷ [])
     ∷ shape refusals.date (Date ∷ Time ∷ [])
     ∷ shape refusals.file_type (Ascii ∷ [])

@@ -103,6 +103,7 @@ fn take_bytes(state: Reader, portion: &[u8]) -> Reader
         mut reading,
         mut cutter,
     } = state;
+    // A turn is a piece of the cutter's, as long as it comes: no iterator goes by those.
     let mut i = 0;
     while i < portion.len() {
         let piece = cutter.cut(portion, i, LINE_LIMIT, Closer::CrLf);

@@ -7,7 +7,7 @@ use crate::refusals::{
     ANALOGUE, CHANNEL_COUNTS, DATE, FILE_TYPE, FREQUENCY, MULTIPLIER, NUMBER_OF_RATES, RATE,
     STATION, STATUS,
 };
-use fields::field::Field;
+use fields::field::{Field, Whole};
 
 const LINE_COUNT: usize = 13;
 
@@ -21,6 +21,18 @@ pub(crate) struct Shape {
     pub fields: &'static [Field],
 }
 
+// So many digits, and a value from one number to another.
+macro_rules! whole {
+    ($least:literal..=$most:literal, $low:literal..=$high:literal) => {
+        Field::Whole(Whole {
+            least: $least,
+            most: $most,
+            low: $low,
+            high: $high,
+        })
+    };
+}
+
 const SHAPES: [Shape; LINE_COUNT] = [
     // station, device, year
     Shape {
@@ -28,14 +40,14 @@ const SHAPES: [Shape; LINE_COUNT] = [
         fields: &[
             Field::Text(0, 64),
             Field::Text(0, 64),
-            Field::Whole(4, 4, 1999, 1999),
+            whole!(4..=4, 1999..=1999),
         ],
     },
     // all channels, analogue ones, status ones
     Shape {
         number: CHANNEL_COUNTS,
         fields: &[
-            Field::Whole(1, 7, 4, 4),
+            whole!(1..=7, 4..=4),
             Field::Channels(3, b'A'),
             Field::Channels(1, b'D'),
         ],
@@ -44,7 +56,7 @@ const SHAPES: [Shape; LINE_COUNT] = [
     Shape {
         number: ANALOGUE,
         fields: &[
-            Field::Whole(1, 6, 1, 1),
+            whole!(1..=6, 1..=1),
             Field::Text(0, 64),
             Field::Text(0, 2),
             Field::Text(0, 64),
@@ -62,7 +74,7 @@ const SHAPES: [Shape; LINE_COUNT] = [
     Shape {
         number: ANALOGUE,
         fields: &[
-            Field::Whole(1, 6, 2, 2),
+            whole!(1..=6, 2..=2),
             Field::Text(0, 64),
             Field::Text(0, 2),
             Field::Text(0, 64),
@@ -80,7 +92,7 @@ const SHAPES: [Shape; LINE_COUNT] = [
     Shape {
         number: ANALOGUE,
         fields: &[
-            Field::Whole(1, 6, 3, 3),
+            whole!(1..=6, 3..=3),
             Field::Text(0, 64),
             Field::Text(0, 2),
             Field::Text(0, 64),
@@ -99,11 +111,11 @@ const SHAPES: [Shape; LINE_COUNT] = [
     Shape {
         number: STATUS,
         fields: &[
-            Field::Whole(1, 6, 1, 1),
+            whole!(1..=6, 1..=1),
             Field::Text(0, 64),
             Field::Text(0, 2),
             Field::Text(0, 64),
-            Field::Whole(1, 1, 0, 1),
+            whole!(1..=1, 0..=1),
         ],
     },
     Shape {
@@ -112,12 +124,12 @@ const SHAPES: [Shape; LINE_COUNT] = [
     },
     Shape {
         number: NUMBER_OF_RATES,
-        fields: &[Field::Whole(1, 3, 1, 1)],
+        fields: &[whole!(1..=3, 1..=1)],
     },
     // rate, last sample number
     Shape {
         number: RATE,
-        fields: &[Field::Decimal(1000), Field::Whole(1, 10, 1, 9999999999)],
+        fields: &[Field::Decimal(1000), whole!(1..=10, 1..=9999999999)],
     },
     // first sample
     Shape {

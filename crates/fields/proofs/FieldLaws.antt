@@ -1,27 +1,21 @@
 -- Words and sorts of fields, from what the code has at hand.
 -- Assumes nothing.
-use mathlib.Core.Path.{◌≡◌, refl, sym, ap, ◌∙◌}
+use mathlib.Core.Path.{◌≡◌, refl}
 use mathlib.Core.Bool.{Bool, true, false, false≢true}
 use mathlib.Core.List.{List, [], ◌∷◌, map}
-use Prim.Native.Nat.{ℕ, ◌≤◌, ◌<◌}
+use Prim.Native.Nat.{ℕ, ◌≤◌}
 use native.Mathlib.Omega.{arith}
 use lib.Dec.{eqb}
-use lib.ListN.{length}
-use borrow.Author.Tests.{eq-eqb, ne_eqb, eqb-true, leb-true, ltb-true}
+use borrow.Author.Tests.{eq-eqb, eqb-true}
 use Rattle.std.specs.Prelude.{◌↔◌}
 use Rattle.checks.specs.Range.{in_range}
 use Rattle.checks.proofs.Cases.{same_test}
 use Rattle.checks.proofs.Tests.{both_true, in_range_law}
-use Rattle.text.specs.Number.{digit_limit}
 use Rattle.text.specs.Words.{bytes_of}
-use Rattle.fields.specs.declared.field.Field.{Field}
-use Rattle.fields.specs.declared.field.Field.TheVariants.{Whole, Decimal}
-use Rattle.fields.specs.Number.{is_number, is_number_or_nothing}
 use Rattle.std.specs.Char.{to_ascii_lowercase}
 use Rattle.std.proofs.lemmas.Bool.Decides.{nat_tests}
 use Rattle.fields.specs.Marks.{all_within}
 use Rattle.fields.specs.Field.{capital_of, is_word, is_primary_or_secondary}
-use Rattle.fields.specs.device.Calls.{large_value, readable}
 
 -- ---- a word of capitals, in any case of letters
 
@@ -73,17 +67,3 @@ module _ (s : List ℕ) where
 
   pub is_secondary : is_word (bytes_of "P") s ≡ false → is_primary_or_secondary s ≡ is_word (bytes_of "S") s
   is_secondary e = rw e
-
-  pub is_nothing_law : length s ≡ 0 → is_number_or_nothing s ≡ true
-  is_nothing_law e = rw (eq-eqb (length s) 0 e)
-
-  pub is_something : (length s ≡ 0 → ⊥) → is_number_or_nothing s ≡ is_number s
-  is_something e = rw (ne_eqb (length s) 0 e)
-
--- ---- a field that the code reads
-
-pub readable_whole : (k : Field) (least most low high : ℕ) → k ≡ Whole least most low high → readable k ≡ true → most ≤ digit_limit
-readable_whole k least most low high e h = leb-true most digit_limit (sym (ap readable e) ∙ h)
-
-pub readable_decimal : (k : Field) (v : ℕ) → k ≡ Decimal v → readable k ≡ true → v < large_value
-readable_decimal k v e h = ltb-true v large_value (sym (ap readable e) ∙ h)

@@ -30,9 +30,6 @@ suc_ltb a b =
 
 -- ---- a test after another
 
-pub refused_first : (a b : Bool) → a ≡ false → false ≡ a && b
-refused_first a b e = sym (rw e)
-
 pub passed_first : (a b r : Bool) → a ≡ true → r ≡ b → r ≡ a && b
 passed_first a b r e f = f ∙ sym (rw e)
 

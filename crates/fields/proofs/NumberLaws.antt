@@ -16,8 +16,8 @@ use Rattle.checks.proofs.Tests.{both_true}
 use Rattle.text.specs.Number.{all_digits, leading, value_of}
 use Rattle.text.proofs.DigitLaws.{all_digits_nil, all_leading, leading_all, value_nothing}
 use Rattle.text.proofs.ValueLaws.{whole_worth}
-use Rattle.fields.specs.Marks.{has, before, after, begins_with}
-use Rattle.fields.specs.Number.{is_whole, minus, point, sign_fits, some_digits, is_of_value, whole_then, optionally, is_unsigned_decimal}
+use Rattle.fields.specs.Marks.{has, before, after}
+use Rattle.fields.specs.Number.{is_whole, point, some_digits, is_of_value, whole_then, optionally, is_unsigned_decimal}
 use Rattle.fields.specs.device.Calls.{MarkFound, WholeLeads, large_value}
 use Rattle.fields.proofs.MarkLaws.{front, rest as m_rest, marked, markless, nothing_after, after_none}
 
@@ -101,20 +101,10 @@ same_capped x v h =
     same_test (eqb x v) (eqb (min x large_value) v)
     (λ t. eq-eqb (min x large_value) v (omega (arith, eqb-true x v t))) (λ t. eq-eqb x v (omega (arith, eqb-true (min x large_value) v t)))
 
--- ---- digits alone, and a sign
-
-pub no_digits : (s : List ℕ) → length s ≡ 0 → some_digits s ≡ false
-no_digits s e = rw e
+-- ---- digits alone
 
 pub some_all_digits : (s : List ℕ) → 1 ≤ length s → some_digits s ≡ all_digits s
 some_all_digits s h = rw (le-leb 1 (length s) h)
-
-module _ (v : ℕ) (s : List ℕ) where
-  pub minus_fits : begins_with minus s ≡ true → sign_fits v s ≡ eqb v 0
-  minus_fits e = rw e
-
-  pub no_minus_fits : begins_with minus s ≡ false → sign_fits v s ≡ true
-  no_minus_fits e = rw e
 
 -- ---- what stands before a mark, and optionally the mark and what stands after it
 

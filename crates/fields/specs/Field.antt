@@ -53,7 +53,7 @@ is_time s = whole_then colon 2 2 0 23 is_minutes s
 
 abbrev pub fits_field : Field → List ℕ → Bool
 fits_field (Text least most) f = in_range least most (length f)
-fits_field (Whole least most low high) f = is_whole least most low high (unspaced f)
+fits_field (Whole w) f = is_whole w.least w.most w.low w.high (unspaced f)
 fits_field (Channels value letter) f = is_channels value letter (unspaced f)
 fits_field (Decimal value) f = is_decimal_of value (unspaced f)
 fits_field Number f = is_number (unspaced f)

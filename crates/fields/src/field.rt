@@ -6,6 +6,7 @@ ghost use Rattle.fields.specs.Field.{is_month_and_year, is_date, is_seconds, is_
 ghost use Rattle.fields.specs.device.Calls.{readable};
 
 use crate::marks::spaces;
+pub use crate::number::Whole;
 use crate::number::{after_whole, is_channels, is_decimal_of, is_extreme, is_number, is_whole};
 
 // What a field must be.
@@ -13,8 +14,7 @@ use crate::number::{after_whole, is_channels, is_decimal_of, is_extreme, is_numb
 pub enum Field {
     // so many bytes
     Text(usize, usize),
-    // so many digits, and a value from one number to another
-    Whole(usize, usize, u64, u64),
+    Whole(Whole),
     // so many channels, and the letter of their sort
     Channels(u64, u8),
     // a decimal of this value
@@ -30,36 +30,79 @@ pub enum Field {
     Time,
 }
 
+const DAY: Whole = Whole {
+    least: 1,
+    most: 2,
+    low: 1,
+    high: 31,
+};
+
+const MONTH: Whole = Whole {
+    least: 1,
+    most: 2,
+    low: 1,
+    high: 12,
+};
+
+const YEAR: Whole = Whole {
+    least: 4,
+    most: 4,
+    low: 1900,
+    high: 9999,
+};
+
+const HOUR: Whole = Whole {
+    least: 2,
+    most: 2,
+    low: 0,
+    high: 23,
+};
+
+// Of minutes and seconds.
+const SIXTIETH: Whole = Whole {
+    least: 2,
+    most: 2,
+    low: 0,
+    high: 59,
+};
+
+const MICROSECONDS: Whole = Whole {
+    least: 6,
+    most: 6,
+    low: 0,
+    high: 999999,
+};
+
 fn is_month_and_year(s: &[u8]) -> bool
     ensures { result ≡ is_month_and_year s.now }
 {
-    after_whole(s, b'/', 1, 2, 1, 12).is_some_and(|year| is_whole(year, 4, 4, 1900, 9999))
+    after_whole(s, MONTH, b'/').is_some_and(|year| is_whole(year, YEAR))
 }
 
 // dd/mm/yyyy, from the year 1900 on.
 fn is_date(s: &[u8]) -> bool
     ensures { result ≡ is_date s.now }
 {
-    after_whole(s, b'/', 1, 2, 1, 31).is_some_and(is_month_and_year)
+    after_whole(s, DAY, b'/').is_some_and(is_month_and_year)
 }
 
 fn is_seconds(s: &[u8]) -> bool
     ensures { result ≡ is_seconds s.now }
 {
-    after_whole(s, b'.', 2, 2, 0, 59).is_some_and(|parts| is_whole(parts, 6, 6, 0, 999999))
+    after_whole(s, SIXTIETH, b'.').is_some_and(|parts| is_whole(parts, MICROSECONDS))
 }
 
 fn is_minutes(s: &[u8]) -> bool
     ensures { result ≡ is_minutes s.now }
 {
-    after_whole(s, b':', 2, 2, 0, 59).is_some_and(is_seconds)
+    after_whole(s, SIXTIETH, b':').is_some_and(is_seconds)
 }
 
 // hh:mm:ss.ssssss
 fn is_time(s: &[u8]) -> bool
     ensures { result ≡ is_time s.now }
 {
-    after_whole(s, b':', 2, 2, 0, 23).is_some_and(is_minutes)
+    after_whole(s, HOUR, b':').is_some_and(is_minutes)
 }
 
 fn is_number_or_nothing(s: &[u8]) -> bool
@@ -82,7 +125,7 @@ pub fn fits(field: Field, s: &[u8]) -> bool
     let t = &s[spaces(s)..];
     match field {
         Field::Text(least, most) => (least <= s.len()) & (s.len() <= most),
-        Field::Whole(least, most, low, high) => is_whole(t, least, most, low, high),
+        Field::Whole(whole) => is_whole(t, whole),
         Field::Channels(value, letter) => is_channels(t, value, letter),
         Field::Decimal(value) => is_decimal_of(t, value),
         Field::Number => is_number(t),

@@ -1,5 +1,5 @@
 // Whole numbers, decimals and numbers with an exponent.
-ghost use Rattle.std.specs.Prelude.{◌≡◌, true, ◌-◌, ◌≤◌, ◌<◌, min};
+ghost use Rattle.std.specs.Prelude.{◌≡◌, true, ◌≤◌, ◌<◌, min};
 ghost use Rattle.text.specs.Number.{value_of, digit_limit};
 ghost use Rattle.fields.specs.Number.{is_whole, is_channels, is_extreme, some_digits, is_exponent, is_unsigned_decimal, is_decimal};
 ghost use Rattle.fields.specs.Number.{is_of_value, sign_fits, is_decimal_of, is_number};
@@ -14,29 +14,38 @@ const LONGEST_NUMBER: usize = 32;
 // No decimal that is asked for has such a value.
 const LARGE: u64 = 1001;
 
-// So many digits, of a value in a range.
-pub(crate) fn is_whole(s: &[u8], least: usize, most: usize, low: u64, high: u64) -> bool
-    requires { most ≤ digit_limit }
-    ensures { result ≡ is_whole least most low high s.now }
+// The digits of a sample.
+const SAMPLE: Whole = Whole {
+    least: 1,
+    most: 7,
+    low: 0,
+    high: 9999999,
+};
+
+// So many digits, and a value from one number to another.
+#[derive(Clone, Copy)]
+pub struct Whole {
+    pub least: usize,
+    pub most: usize,
+    pub low: u64,
+    pub high: u64,
+}
+
+pub(crate) fn is_whole(s: &[u8], whole: Whole) -> bool
+    requires { whole.most ≤ digit_limit }
+    ensures { result ≡ is_whole whole.least whole.most whole.low whole.high s.now }
 {
-    let d = read_digits(s, 0, most);
-    d.count == s.len() && least <= d.count && (low..=high).contains(&d.value)
+    let d = read_digits(s, 0, whole.most);
+    d.count == s.len() && whole.least <= d.count && (whole.low..=whole.high).contains(&d.value)
 }
 
 // What stands after a whole number and the mark that closes it.
-pub(crate) fn after_whole(
-    s: &[u8],
-    mark: u8,
-    least: usize,
-    most: usize,
-    low: u64,
-    high: u64,
-) -> Option<&[u8]>
-    requires { most ≤ digit_limit }
-    ensures { WholeLeads mark least most low high s.now result }
+pub(crate) fn after_whole(s: &[u8], whole: Whole, mark: u8) -> Option<&[u8]>
+    requires { whole.most ≤ digit_limit }
+    ensures { WholeLeads mark whole.least whole.most whole.low whole.high s.now result }
 {
     let n = until(s, mark, mark);
-    if n < s.len() && is_whole(&s[..n], least, most, low, high) {
+    if n < s.len() && is_whole(&s[..n], whole) {
         Some(&s[n + 1..])
     } else {
         None
@@ -47,15 +56,20 @@ pub(crate) fn after_whole(
 pub(crate) fn is_channels(s: &[u8], value: u64, letter: u8) -> bool
     ensures { result ≡ is_channels value letter s.now }
 {
-    after_whole(s, letter, 1, 6, value, value).is_some_and(|rest| rest.is_empty())
+    let whole = Whole {
+        least: 1,
+        most: 6,
+        low: value,
+        high: value,
+    };
+    after_whole(s, whole, letter).is_some_and(|rest| rest.is_empty())
 }
 
 // The least or the greatest sample.
 pub(crate) fn is_extreme(s: &[u8]) -> bool
     ensures { result ≡ is_extreme s.now }
 {
-    let n = mark_length(s, b'-', b'-');
-    is_whole(&s[n..], 1, 7, 0, 9999999)
+    is_whole(&s[mark_length(s, b'-', b'-')..], SAMPLE)
 }
 
 fn some_digits(s: &[u8]) -> bool

@@ -7,6 +7,7 @@ pub(crate) fn read_status(fields: &[u64]) -> Option<u8>
     requires { length fields.now ≤ 8 }
     ensures { result ≡ status_answer fields.now }
 {
+    // By places: of an `iter().rev()` in a `for` no law of std says which field comes.
     let mut byte = 0u8;
     for k in (0..fields.len()).rev() {
         let bit = fields[k];

@@ -30,7 +30,7 @@ large_value = 1001
 -- the fields that the code reads: their digits and values fit in its numbers
 abbrev pub readable : Field → Bool
 readable (Text least most) = true
-readable (Whole least most low high) = leb most digit_limit
+readable (Whole w) = leb w.most digit_limit
 readable (Channels value letter) = true
 readable (Decimal value) = ltb value large_value
 readable Number = true

@@ -32,7 +32,7 @@ pub record Numbers : Type 0 where
 abbrev pub with_value : ℕ → Numbers → Numbers
 with_value n x = record { values = n ∷ x.values; next = x.next }
 
--- before fields of these widths a comma, after the last CR
+-- what closes a field: a comma before fields of these widths, CR after the last
 abbrev pub closer_of : List ℕ → ℕ
 closer_of [] = cr
 closer_of (w ∷ ws) = comma
