@@ -12,7 +12,7 @@ use lib.ListN.{length, get_or, take, drop, length-take, length-drop, drop_of_len
 use lib.Seq.{drop-cons, drop-length, get_or-take, get_or-drop}
 use borrow.Author.Tests.{eq-eqb, ne_eqb, eqb-true, le-leb, lt-leb, leb-true, ltb-true, ltb-false}
 use Rattle.checks.proofs.Cases.{by_cond, same_test}
-use Rattle.checks.proofs.Tests.{in_range_law}
+use Rattle.checks.proofs.Tests.{in_range_law, is_in_range}
 use Rattle.text.specs.declared.number.Digits.{Digits}
 use Rattle.text.specs.Number.{is_digit, all_digits, leading, value_from, value_of, digits_from}
 
@@ -56,7 +56,7 @@ module _ (w n v p : ℕ) (s : List ℕ) where
   abbrev here : Digits
   here = record { count = n; value = v }
 
-  digits_full : w ≤ n → here ≡ rest
+  pub digits_full : w ≤ n → here ≡ rest
   unfolding leading value_from
   digits_full h = let e : w - n ≡ 0 = omega arith in let z : n + 0 ≡ n = omega arith in rw (e, z)
 
@@ -64,7 +64,7 @@ module _ (w n v p : ℕ) (s : List ℕ) where
     split : w - n ≡ suc (w - (n + 1))
     split = omega arith
 
-    digits_end : p ≡ length s → here ≡ rest
+    pub digits_end : p ≡ length s → here ≡ rest
     unfolding leading value_from
     digits_end e = let z : n + 0 ≡ n = omega arith in rw (split, e, drop-length s, z)
 
@@ -73,12 +73,16 @@ module _ (w n v p : ℕ) (s : List ℕ) where
       unfolding leading value_from
       digits_stop e = let z : n + 0 ≡ n = omega arith in rw (split, drop-cons s p 0 k, e, z)
 
-      pub digits_more : is_digit (get_or s p 0) ≡ true
+      digits_next : is_digit (get_or s p 0) ≡ true
           → rest ≡ digits_from (n + 1) (v * 10 + (get_or s p 0 - 48)) (leading (w - (n + 1)) (drop (p + 1) s))
       unfolding leading value_from
-      digits_more e =
+      digits_next e =
           let z : (m : ℕ) → n + suc m ≡ n + 1 + m = λ m. omega arith in
           rw (split, drop-cons s p 0 k, e, z, add-one p)
+
+      pub digits_more : 48 ≤ get_or s p 0 → get_or s p 0 ≤ 57
+          → rest ≡ digits_from (n + 1) (v * 10 + (get_or s p 0 - 48)) (leading (w - (n + 1)) (drop (p + 1) s))
+      digits_more a b = digits_next (is_in_range 48 57 (get_or s p 0) a b)
 
   -- as many as are asked for, or as the text has
   pub digits_over : (n < w → p ≡ length s) → here ≡ rest
@@ -127,7 +131,7 @@ pub digits_again : (w n v at : ℕ) (s : List ℕ) (b : ℕ) → n < w → at + 
     ≡ digits_from n v (leading (w - n) (drop (at + n) s))
 digits_again w n v at s b h k here digit =
     let e : at + (n + 1) ≡ at + n + 1 = omega arith in
-    rw (e, here) (sym (digits_more w n v (at + n) s h k (ap is_digit (sym here) ∙ digit)))
+    rw (e, here) (sym (digits_next w n v (at + n) s h k (ap is_digit (sym here) ∙ digit)))
 
 pub digits_count : (d : Digits) (w : ℕ) (s : List ℕ) → d ≡ digits_from 0 0 (leading w s) → d.count ≡ length (leading w s)
 digits_count d w s e = let z : 0 + length (leading w s) ≡ length (leading w s) = omega arith in ap (λ (x : Digits). x.count) e ∙ z
