@@ -77,7 +77,7 @@ fn put_phase(page: &mut Page, name: &[u8], settings: Settings, state: PhaseState
     }
 }
 
-// The lines of L1, L2, L3, by the relay's state before the tick.
+// The lines of L1, L2, L3, by the relay's state before the tick. No loop: it would zip names, states and currents for three turns.
 pub fn put_explanation(page: &mut Page, settings: Settings, relay: RelayState, sample: Sample)
     requires { page.old.at + explanation_room ≤ length page.old.out.now }
     ensures { Put explanation_room page.old page.new (explanation settings relay sample) }

@@ -52,7 +52,7 @@ impl Replay {
 }
 
 // The bytes of a portion, line by line: after a line that is closed the rows that stand whole are run ahead. What follows a line
-// that is too long is not looked at.
+// that is too long is not looked at. A `while`: how far a turn goes, the cutter and the rows run ahead tell.
 fn feed_bytes(state: Replay, portion: &[u8], page: &mut Page) -> Replay
     requires { (state.cutter.count < line_limit)
         × (page.old.at + portion_room state.form state.cutter.count (length portion.now) ≤ length page.old.out.now) }
@@ -106,8 +106,7 @@ fn input_for(form: Form, room: usize) -> usize
     match form {
         Form::Changes => room,
         Form::Record => room / RECORD_SPREAD,
-        Form::Explain(_) => room / EXPLAIN_SPREAD,
-        Form::ExplainAll => room / EXPLAIN_SPREAD,
+        Form::Explain(_) | Form::ExplainAll => room / EXPLAIN_SPREAD,
     }
 }
 

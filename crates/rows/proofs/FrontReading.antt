@@ -14,7 +14,7 @@ use borrow.Author.Tests.{eq-eqb, ne_eqb, eqb-true, lt-ltb, le-ltb}
 use Rattle.std.specs.Prelude.{Some, None}
 use Rattle.std.proofs.lemmas.Option.{cond_some}
 use Rattle.checks.proofs.Tests.{both_true, in_range_law, leb_iff}
-use Rattle.text.proofs.DigitLaws.{leading_length, one_more_law, digits_over, digits_more, digits_count}
+use Rattle.text.proofs.DigitLaws.{leading_length, one_more_law, digits_full, digits_more, digits_count}
 use Rattle.rows.specs.declared.front.Field.{Field}
 use Rattle.rows.specs.device.Front.{field_from}
 
@@ -47,7 +47,7 @@ module _ (s : List ℕ) (at width end value : ℕ) (r : Reading s at width end v
         few = omega (arith, h);
         small = rw more (one_more_law value (get_or s end 0 - 48) (end - at) r.small (omega (arith, low, high)));
         whole =
-            rw more (sym (digits_more width (end - at) value end s (omega (arith, h, r.begun)) k e) ∙ r.whole);
+            rw more (sym (digits_more width (end - at) value end s (omega (arith, h, r.begun)) k low high) ∙ r.whole);
       }
 
   -- ---- at the end
@@ -59,7 +59,7 @@ module _ (s : List ℕ) (at width end value : ℕ) (r : Reading s at width end v
   Found = here ≡ digits_from 0 0 (leading width (drop at s))
 
   pub found_full : at + width ≤ end → Found
-  found_full h = digits_over width (end - at) value end s (λ more. omega (arith, h, r.begun, more)) ∙ r.whole
+  found_full h = digits_full width (end - at) value end s (omega (arith, h, r.begun)) ∙ r.whole
 
   pub found_other : end < length s → is_digit (get_or s end 0) ≡ false → Found
   unfolding value_from

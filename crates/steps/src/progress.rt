@@ -145,7 +145,7 @@ pub fn on_line(form: Form, p: Progress, line: &[u8], page: &mut Page) -> Progres
     }
 }
 
-// A row that writes nothing.
+// A row that writes nothing. Not `on_row` with a form for it: at the end of the input there is no page that has its room.
 fn after_row(p: Progress, line: &[u8]) -> Progress
     ensures { result ≡ after_row p line.now }
 {

@@ -8,9 +8,3 @@ returns-in-Changes c = rw c.in-Changes.is (omega arith)
 
 pub returns-in-Record : goal.returns-in-Record
 returns-in-Record c = rw c.in-Record.is
-
-pub returns-in-Explain : goal.returns-in-Explain
-returns-in-Explain c = rw c.in-Explain.is
-
-pub returns-in-ExplainAll : goal.returns-in-ExplainAll
-returns-in-ExplainAll c = rw c.in-ExplainAll.is
