@@ -13,7 +13,7 @@ fn is_all(rt: HostRuntime) -> bool {
 }
 
 // None where there is no argument, more than one, or one that is no row number. A row's number has six digits at most.
-pub(crate) fn asked(rt: HostRuntime) -> Option<Asked> {
+pub(crate) fn read_argument(rt: HostRuntime) -> Option<Asked> {
     if argument_count(rt) != 2 {
         return None;
     }

@@ -8,7 +8,7 @@ mod asked;
 ghost use Rattle.std.specs.Prelude.{◌≤◌};
 ghost use Rattle.files.specs.Replay.{longest_line, portion_room};
 
-use asked::{Asked, asked};
+use asked::{Asked, read_argument};
 use files::{LONGEST_LINE, Replay};
 use program::say;
 use std::io::Write;
@@ -48,7 +48,7 @@ fn explain(rt: HostRuntime, row: u32) {
 }
 
 fn main(rt: HostRuntime) {
-    match asked(rt) {
+    match read_argument(rt) {
         Some(Asked::All) => explain_all(rt),
         Some(Asked::Row(row)) => explain(rt, row),
         None => {

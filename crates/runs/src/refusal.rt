@@ -40,7 +40,7 @@ pub fn tell(rt: HostRuntime, state: Replay) -> u32
 {
     let refusal = files::refusal_at_end(state);
     if refusal.number == 0 {
-        return 0;
+        return refusal.number;
     }
     // The record has no end line on standard output: it begins what is said.
     if matches!(state.form, Form::Record) {

@@ -8,10 +8,17 @@ use Rattle.runs.proofs.portions.run.Goals as goal
 pub one_turn-requires : goal.one_turn-requires
 one_turn-requires c =
     let sound : Sound c.fresh-state.result = rw c.fresh-state.ensures (fresh_sound c.args.form c.args.configuration) in
-    let (reached, read, room) = c.loop.invariant in
-    ?
+    let enough : portion_room c.fresh-state.result.form longest_line (length c.args.portion.now) ≤ length c.args.out.now =
+    rw c.fresh-state.ensures c.requires in
+    let reached = c.loop.invariant in
+    let read = c.read_portion.auto in (
+      reached_sound _ _ sound reached,
+      rw (reached_form _ _ reached, c.loop.auto.out) (read_less _ longest_line _ (length c.args.portion.now) _ (simp length-take (omega arith)) enough),
+    )
 
 pub loop-preserved : goal.loop-preserved
-loop-preserved c =
-    let (reached, read, room) = c.loop.invariant in
-    ?
+loop-preserved c = reached_on _ _ _ c.loop.invariant (reached_fed c.loop.state c.in_ok-state.state _ c.in_ok-state.ensures)
+
+pub returns-then-has_stopped-has_answered : goal.returns-then-has_stopped-has_answered
+returns-then-has_stopped-has_answered c =
+    rw c.fresh-state.ensures at (reached_on _ _ _ c.loop.invariant (reached_fed c.loop.state c.in_ok-state.state _ c.in_ok-state.ensures))

@@ -4,8 +4,8 @@ use mathlib.Core.Path.{ap, ◌∙◌}
 use Rattle.rows.specs.declared.refusal.Refusal.{Refusal}
 use Rattle.runs.proofs.refusal.tell.Goals as goal
 
-pub returns-then-number-eq0 : goal.returns-then-number-eq0
-returns-then-number-eq0 c = ap (λ (x : Refusal). x.number) c.refusal_at_end-refusal.ensures
+pub returns-then-refusal-eq0 : goal.returns-then-refusal-eq0
+returns-then-refusal-eq0 c = ap (λ (x : Refusal). x.number) c.refusal_at_end-refusal.ensures
 
 pub returns : goal.returns
 returns c = c.say_reason.ensures ∙ ap (λ (x : Refusal). x.number) c.refusal_at_end-refusal.ensures
