@@ -25,7 +25,7 @@ pub(crate) struct RefusedRelay {
 }
 
 // Reads to the end of the input, or until the memory is full: what comes after that does not matter. None where a read failed, which
-// is told.
+// is told. The library's `read_to_end` wants a heap, and its `read_exact` says nothing of a shorter input.
 fn read_input(rt: HostRuntime, bytes: &mut [u8]) -> Option<usize>
     ensures { IfSome result (λ n. IsPrefixLen n bytes.new) }
 {

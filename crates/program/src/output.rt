@@ -64,7 +64,8 @@ pub fn say(rt: HostRuntime, words: &[u8]) -> usize
     write_all(&mut rt.stderr(), words).count
 }
 
-// A number for a person, on standard error: the fewest decimal digits that hold it. Answers how many of them were taken.
+// A number for a person, on standard error: the fewest decimal digits that hold it. Answers how many of them were taken, which a
+// format would not: docs/SHEET.md promises it.
 pub fn say_number(rt: HostRuntime, n: u64) -> usize
     ensures { NumberSaid n result }
 {
