@@ -5,7 +5,7 @@ ghost use Rattle.phase.specs.Settings.{settings_of, settings_refusal};
 
 use crate::settings::settings_of;
 
-// 0, or the number of the first setting that is outside its range.
+// 0, or the number of the first setting that is outside its range: C takes and is answered plain numbers.
 #[unsafe(no_mangle)]
 pub extern "C" fn oc_check_settings(
     operation: u32,

@@ -5,7 +5,7 @@ ghost use Rattle.std.specs.Prelude.{◌≡◌, [], ◌∷◌};
 ghost use Rattle.checks.specs.Checks.{check, first_failed};
 ghost use Rattle.checks.specs.Range.{in_range};
 
-// Whether a number is in a range, both ends included.
+// Whether a number is in a range, both ends included. (docs/SHEET.md names the call.)
 pub fn in_range(low: u32, high: u32, n: u32) -> bool
     ensures { result ≡ in_range low high n }
 {

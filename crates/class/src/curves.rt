@@ -168,8 +168,8 @@ pub(crate) fn ratios(rt: HostRuntime) {
     verdict(rt, ratio == 2000);
 }
 
-// Whether the rows of X(m), which the curves read, have what the constant table has, at each ratio.
-fn rows_hold_the_table() -> bool {
+// Whether X(m), as the curves read it, is what the constant table has, at each ratio.
+fn reads_the_table() -> bool {
     (101..=2000).all(|ratio| powers::x_of(ratio) == powers::x_in_table(ratio))
 }
 
@@ -177,6 +177,6 @@ pub(crate) fn power_table(rt: HostRuntime) {
     example(
         rt,
         "\nX(m), m from 101 to 2000, as the curves read it: the 1900 entries of the constant table",
-        rows_hold_the_table(),
+        reads_the_table(),
     );
 }

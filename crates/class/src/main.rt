@@ -1,5 +1,5 @@
-// The class examples, published curve points, pairs of recordings and the latest trips, run through the module and compared with what they
-// should be.
+// The class examples, published curve points, pairs of recordings and the latest trips, run through the module and compared with what
+// they should be.
 #![tactic(auto)]
 
 mod curves;

@@ -31,6 +31,7 @@ fn fields_fit(s: &[u8], fields: &[Field]) -> bool
     requires { all_readable fields.now ≡ true }
     ensures { result ≡ fit_all fields.now (fields_in s.now) }
 {
+    // By places: what a field must be is asked before the next comma is looked for.
     let mut at = 0;
     for (k, field) in fields.iter().enumerate() {
         let end = field_end(s, at);

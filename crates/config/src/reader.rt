@@ -94,7 +94,8 @@ fn on_line(r: Reading, l: &[u8]) -> Reading
     }
 }
 
-// The bytes of a portion, line by line: what follows a line that is too long is not looked at.
+// The bytes of a portion, line by line: what follows a line that is too long is not looked at. (Not one loop with `feed_bytes` of
+// files, which writes, and runs rows ahead.)
 fn take_bytes(state: Reader, portion: &[u8]) -> Reader
     requires { state.cutter.count < line_limit }
     ensures { result ≡ taken state portion.now }

@@ -33,6 +33,30 @@ macro_rules! whole {
     };
 }
 
+// An analogue channel: index, name, phase, component, unit, a, b, skew, min, max, primary, secondary, P or S.
+macro_rules! analogue {
+    ($index:literal) => {
+        Shape {
+            number: ANALOGUE,
+            fields: &[
+                whole!(1..=6, $index..=$index),
+                Field::Text(0, 64),
+                Field::Text(0, 2),
+                Field::Text(0, 64),
+                Field::Text(1, 32),
+                Field::Decimal(1),
+                Field::Decimal(0),
+                Field::Number,
+                Field::Extreme,
+                Field::Extreme,
+                Field::Number,
+                Field::Number,
+                Field::PrimaryOrSecondary,
+            ],
+        }
+    };
+}
+
 const SHAPES: [Shape; LINE_COUNT] = [
     // station, device, year
     Shape {
@@ -52,61 +76,9 @@ const SHAPES: [Shape; LINE_COUNT] = [
             Field::Channels(1, b'D'),
         ],
     },
-    // an analogue channel: index, name, phase, component, unit, a, b, skew, min, max, primary, secondary, P or S
-    Shape {
-        number: ANALOGUE,
-        fields: &[
-            whole!(1..=6, 1..=1),
-            Field::Text(0, 64),
-            Field::Text(0, 2),
-            Field::Text(0, 64),
-            Field::Text(1, 32),
-            Field::Decimal(1),
-            Field::Decimal(0),
-            Field::Number,
-            Field::Extreme,
-            Field::Extreme,
-            Field::Number,
-            Field::Number,
-            Field::PrimaryOrSecondary,
-        ],
-    },
-    Shape {
-        number: ANALOGUE,
-        fields: &[
-            whole!(1..=6, 2..=2),
-            Field::Text(0, 64),
-            Field::Text(0, 2),
-            Field::Text(0, 64),
-            Field::Text(1, 32),
-            Field::Decimal(1),
-            Field::Decimal(0),
-            Field::Number,
-            Field::Extreme,
-            Field::Extreme,
-            Field::Number,
-            Field::Number,
-            Field::PrimaryOrSecondary,
-        ],
-    },
-    Shape {
-        number: ANALOGUE,
-        fields: &[
-            whole!(1..=6, 3..=3),
-            Field::Text(0, 64),
-            Field::Text(0, 2),
-            Field::Text(0, 64),
-            Field::Text(1, 32),
-            Field::Decimal(1),
-            Field::Decimal(0),
-            Field::Number,
-            Field::Extreme,
-            Field::Extreme,
-            Field::Number,
-            Field::Number,
-            Field::PrimaryOrSecondary,
-        ],
-    },
+    analogue!(1),
+    analogue!(2),
+    analogue!(3),
     // the status channel: index, name, phase, component, normal state
     Shape {
         number: STATUS,

@@ -17,6 +17,7 @@ fn shift_and_subtract(n: u64, d: u64) -> u64
     let mut bit = 1u64 << places;
     let mut rest = n;
     let mut q = 0;
+    // No index: `bit` is the bit of the quotient that is due, and halves to nothing.
     while 0 < bit {
         // Each way shifts for itself: joined, they are a quarter slower.
         if rest < part {

@@ -22,7 +22,8 @@ fn inverse_part(a: Power, k: u64, m: u32) -> u64
     }
 }
 
-// The operate time T at multiplier 1; 0 where there is none. The arms are the ranges of the ratio that document 01 names.
+// The operate time T at multiplier 1; 0 where there is none (docs/SHEET.md has it as a number, and a quotient by 0 is 0). The arms are
+// the ranges of the ratio that document 01 names.
 #[tactic(auto, using(crate::proofs::TimeLaws::operate_laws))]
 pub fn operate_time(operation: u32, ratio: u32) -> u64
     ensures { result ≡ operate_time operation ratio }
@@ -49,7 +50,7 @@ fn reset_part(kr: u64, m: u32) -> u64
     round_up(kr * 1000000, 10000 - ratio * ratio)
 }
 
-// The reset time of an ANSI curve; 0 where there is none.
+// The reset time of an ANSI curve; 0 where there is none, as above.
 #[tactic(auto, using(crate::proofs::TimeLaws::reset_laws))]
 pub fn reset_time(operation: u32, ratio: u32) -> u64
     ensures { result ≡ reset_time operation ratio }

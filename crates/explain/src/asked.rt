@@ -1,12 +1,14 @@
 // What the program is asked for: its one argument.
 use program::{argument, argument_count, number_argument};
 
+// No option of a row: none of it would read as nothing asked for.
 #[derive(Clone, Copy)]
 pub(crate) enum Asked {
     All,
     Row(u32),
 }
 
+// As `has_option` of replay: two lines, shorter than a shared call with its contract.
 fn is_all(rt: HostRuntime) -> bool {
     let mut word = [0u8; 5];
     argument(rt, 1, &mut word).is_some() && word == *b"--all"

@@ -17,13 +17,15 @@ enum Closing {
     Last,
 }
 
-// The byte at a place, 0 past the end: 0 is no digit, and closes no field.
+// The byte at a place, 0 past the end: 0 is no digit, and closes no field. (No Option: the scan compares it with what is due, and
+// docs/SHEET.md names the call.)
 pub fn byte_at(s: &[u8], at: usize) -> u8
     ensures { result ≡ get_or s.now at 0 }
 {
     s.get(at).copied().unwrap_or(0)
 }
 
+// docs/SHEET.md names it.
 pub fn is_digit(b: u8) -> bool
     ensures { result ≡ is_digit b }
 {
@@ -82,7 +84,8 @@ fn closing_at(
     ending(s, at, field)
 }
 
-// A line that is due one field for each width, in one scan: field by field, and in each digit by digit, to the first fault. The numbers
+// A line that is due one field for each width, in one scan: field by field, and in each digit by digit, to the first fault. The
+// numbers
 // stand at the front; the other places hold 0.
 // Loops by hand: docs/SHEET.md has the scan as a nested loop that breaks by label, and where a field ends its bytes tell.
 pub fn read_line(s: &[u8], widths: &[usize]) -> Result<[u64; FIELD_LIMIT], Fault>

@@ -10,6 +10,9 @@ use lib.IntN.{ℤ}
 use lib.ListN.{length, get_or, drop, set, length-append, length-drop}
 use lib.Seq.{drop-cons, append_snoc, set-append_seam}
 use lib.Signed.{lt_z}
+use mir.Syntax.{w64}
+use mir.Val.{SFits, to_z, of_z}
+use mir.ValLaws.{to_z-of_z}
 use Rattle.std.specs.Prelude.{Option, Some, None}
 use Rattle.phase.specs.declared.settings.Settings.{Settings}
 use Rattle.grading.specs.declared.margins.Smallest.{Smallest}
@@ -53,6 +56,10 @@ lay_next false given xs ratio h = rw (append-nil xs)
 
 laid_length : (given xs : List ℕ) → length xs ≤ length given → length (laid given xs).list ≡ length given
 laid_length given xs h = rw (length-append xs (drop (length xs) given), length-drop (length xs) given) (omega arith)
+
+-- as the code finds it: both differences go through their 64 bits
+pub smaller_by : (before : Smallest) (z : ℤ) (ratio : ℕ) (t : Bool) → SFits w64 z → SFits w64 before.difference → lt_z (to_z w64 (of_z w64 z)) (to_z w64 (of_z w64 before.difference)) ≡ t → cond t (record { difference = to_z w64 (of_z w64 z); ratio = ratio }) before ≡ smaller_of (Some before) z ratio
+smaller_by before z ratio t fits fit e = rw (sym e, to_z-of_z w64 z fits, to_z-of_z w64 before.difference fit)
 
 -- ---- the invariant
 

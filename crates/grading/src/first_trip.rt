@@ -6,8 +6,8 @@ ghost use Rattle.grading.specs.Margin.{lowest_ratio, highest_ratio};
 use crate::tripping::Tripping;
 use phase::settings::trip_level;
 
-// From clear, with an unchanged sample: the larger of the minimum delay and the level divided by the gain, rounded up. From 101 on there
-// is always a gain to divide by.
+// From clear, with an unchanged sample: the larger of the minimum delay and the level divided by the gain, rounded up. From 101 on
+// there is always a gain to divide by.
 pub(crate) fn first_trip(relay: Tripping, ratio: u32) -> u64
     requires { (lowest_ratio ≤ ratio) × (ratio ≤ highest_ratio) }
     ensures { result ≡ first_trip_at relay.settings ratio }

@@ -50,7 +50,7 @@ fn smaller(before: Option<Smallest>, difference: i64, ratio: u32) -> Smallest
 // with a count beside it: there is no heap for one of its own.
 fn list_ratio(list: &mut [u32], count: usize, ratio: u32, is_close: bool) -> usize
     requires { count < length list.old }
-    ensures { record { count = result; list = list.new } ≡ counted list.old count ratio (is_close) }
+    ensures { record { count = result; list = list.new } ≡ counted list.old count ratio is_close }
 {
     if is_close {
         list[count] = ratio;

@@ -15,7 +15,7 @@ pub enum Relay {
     Downstream,
 }
 
-// A number of 0 is no refusal; one that is of neither relay names none.
+// A number of 0 is no refusal, as the end line tells it; one that is of neither relay names none.
 #[derive(Clone, Copy, PartialEq, Eq)]
 pub struct Refusal {
     pub number: u32,
@@ -26,11 +26,13 @@ pub struct Refusal {
 fn graded_first_failed(settings: Settings) -> u32
     ensures { result ≡ lowest (graded_checks settings) }
 {
+    // By number: the curves are those from 2 on.
     let trips = 2 <= settings.operation && settings.start_only == 0;
     settings_first_failed(settings, first_failed(trips, NOT_GRADED, 0))
 }
 
-// Of what two relays are refused with, 0 for nothing, the lower number, upstream's where both have it; else `rest`.
+// Of what two relays are refused with, 0 for nothing, the lower number, upstream's where both have it; else `rest`. (docs/SHEET.md
+// names the call, with numbers.)
 pub fn lower_of(upstream: u32, downstream: u32, rest: u32) -> Refusal
     ensures { result ≡ lower_of upstream downstream rest }
 {

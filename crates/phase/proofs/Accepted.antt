@@ -13,6 +13,7 @@ use Rattle.phase.specs.declared.settings.Settings.{Settings}
 use Rattle.phase.specs.declared.state.PhaseState.{PhaseState}
 use Rattle.phase.specs.Operation.{kind_of}
 use Rattle.phase.specs.Refusals.{invalid_state}
+use Rattle.phase.specs.device.Pace.{pace_of, Ready}
 use Rattle.phase.specs.Settings.{settings_checks, settings_refusal, trip_level}
 use Rattle.phase.specs.device.Ranges.{InRange, InLimits}
 use Rattle.phase.specs.State.{run_limit, valid, valid_counts, valid_for}
@@ -68,6 +69,11 @@ pub valid_kind : (settings : Settings) (state : PhaseState) → valid settings s
 unfolding valid
 valid_kind settings state e =
     (both_true (leb state.sum (trip_level settings) && valid_counts state) (valid_for (kind_of settings.operation) state) e).1
+
+pub ready : (settings : Settings) (state : PhaseState) (g : ℕ) → InRange settings → valid settings state ≡ true → Ready settings (pace_of settings g) state
+unfolding pace_of
+ready settings state g range e =
+    record { range = range; gain = refl; loss = refl; limits = valid_in_limits settings state e }
 
 -- settings and a state that pass, and what comes after them
 pub phase_passed : (settings : Settings) (state : PhaseState) (rest : ℕ) → first_failed (phase_checks settings state) rest ≡ 0 → InRange settings × (valid settings state ≡ true) × (rest ≡ 0)

@@ -15,6 +15,7 @@ pub enum Timing {
     Curve(ResetRule),
 }
 
+// Off is an operation of the document, and not the lack of one.
 #[derive(Clone, Copy)]
 pub enum Kind {
     Off,

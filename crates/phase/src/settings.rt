@@ -19,7 +19,7 @@ pub struct Settings {
 }
 
 impl Settings {
-    // 0, or the number of the first setting that is outside its range.
+    // 0, or the number of the first setting that is outside its range: C is answered so.
     #[tactic(auto, unfolding(crate::specs::Settings::settings_refusal))]
     pub fn check(self) -> u32
         ensures { result ≡ settings_refusal self }

@@ -10,6 +10,7 @@ use crate::plan::Plan;
 use crate::planned::Planned;
 use phase::PhaseState;
 
+// No ghost field tells that the memory is its settings': a course does not hold them.
 #[derive(Clone, Copy)]
 pub struct Course {
     pub state: PhaseState,

@@ -30,7 +30,7 @@ pub struct Memo {
 }
 
 // The first and the last sample that do what those of a ratio do, which is as many samples wide as the start current. Without a curve
-// all samples do the same, and on an IEC curve all those without a gain.
+// all samples do the same, and on an IEC curve all those without a gain. (By number, and no `Kind`: less than a kind is asked.)
 fn samples_at(checked: CheckedSettings, ratio: u32) -> (u32, u32)
     requires { ratio ≤ cap_ratio }
     ensures { result ≡ samples_at checked.settings ratio }
@@ -71,6 +71,7 @@ pub(crate) fn memo_at_setting(checked: CheckedSettings) -> Memo
     memo_at(checked, 100, 0, 0)
 }
 
+// Not by `pace_of`: the ratio is wanted too.
 fn memo_of(checked: CheckedSettings, sample: u32) -> Memo
     ensures { result ≡ memo_of checked.settings sample }
 {

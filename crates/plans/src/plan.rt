@@ -9,7 +9,7 @@ use phase::operation::{Kind, ResetRule, Timing, kind_of};
 use phase::settings::trip_level;
 use phase::{CheckedSettings, PhaseState, Settings};
 
-// No count gets so far.
+// No count gets so far: it stands for never, so that a tick compares alone.
 const NO_COUNT: u32 = PhaseState::RUN_LIMIT + 1;
 
 // The largest samples that leave a phase idle, one that was not started and one that was; the sum and the run that a trip takes;
@@ -35,7 +35,7 @@ fn level_of(timing: Timing, settings: Settings) -> u64
     }
 }
 
-// With start only on, no run gets to a trip.
+// With start only on, no run gets to a trip. (Else as `delay_of` of `why`: two lines, shorter than a public call for both.)
 fn delay_of(timing: Timing, settings: Settings) -> u32
     ensures { result ≡ delay_of timing settings }
 {

@@ -20,7 +20,7 @@ pub fn argument(rt: HostRuntime, i: usize, buf: &mut [u8]) -> Option<usize>
 }
 
 // Puts an argument at the front of `buf` and answers its length: none where it is missing. One that does not fit answers all of
-// `buf`: where that has `PATH_ROOM` bytes it is too long for a path, which `open_file` tells.
+// `buf`: where that has `PATH_ROOM` bytes it is too long for a path, which `open_file` tells in the system's words.
 pub fn path_argument(rt: HostRuntime, i: usize, buf: &mut [u8]) -> Option<usize>
     ensures { IfSome result (λ n. IsPrefixLen n buf.new) }
 {

@@ -40,7 +40,7 @@ fn put_row(free: &mut [u8], x: RecordRow) -> usize
     put_line(free, &numbers)
 }
 
-// What the row is refused with where so many bytes are free.
+// What the row is refused with where so many bytes are free, 0 for nothing, as `RowWritten` tells it.
 #[tactic(auto, unfolding(crate::specs::Writer::write_refusal))]
 fn write_refusal(x: RecordRow, free: usize) -> u32
     ensures { result ≡ write_refusal x free }

@@ -2,6 +2,7 @@
 ghost use Rattle.std.specs.Prelude.{false, ◌≡◌, ◌*◌, ◌≤◌, get_or};
 ghost use Rattle.relay.specs.Outputs.{bit, general, output_byte, phase_bits};
 
+// No `From`: that it is at most the value is its promise too.
 pub fn bit(on: bool, value: u8) -> u8
     ensures { (result ≡ bit on value) × (result ≤ value) }
 {

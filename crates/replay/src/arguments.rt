@@ -2,6 +2,7 @@
 use program::{PATH_ROOM, argument, argument_count, path_argument};
 use steps::Configuration;
 
+// As `is_all` of explain: two lines, shorter than a shared call with its contract.
 fn has_option(rt: HostRuntime) -> bool {
     let mut word = [0u8; 8];
     argument(rt, 1, &mut word).is_some() && word == *b"--config"

@@ -38,7 +38,7 @@ module _ (ws : List ℕ) (rest : List ℕ → ℕ) (s : List ℕ) (last : ℕ) w
   pub numbered_misshapen : (f : Fault) → shape_of ws s ≡ Some f → numbered_refusal ws rest s last ≡ misshapen (length ws) s f
   numbered_misshapen f e = numbered_by (Some f) e
 
-  numbered_other : shape_of ws s ≡ None → (get_or (numbers_of s) 0 0 ≡ last + 1 → ⊥) → numbered_refusal ws rest s last ≡ without_place wrong_number
+  pub numbered_other : shape_of ws s ≡ None → (get_or (numbers_of s) 0 0 ≡ last + 1 → ⊥) → numbered_refusal ws rest s last ≡ without_place wrong_number
   numbered_other e n = numbered_by None e ∙ rw (ne_eqb (get_or (numbers_of s) 0 0) (last + 1) n)
 
   pub numbered_rest : shape_of ws s ≡ None → get_or (numbers_of s) 0 0 ≡ last + 1 → numbered_refusal ws rest s last ≡ without_place (rest (numbers_of s))

@@ -15,9 +15,10 @@ use Rattle.text.specs.Line.{numbers_of, fits_in, right_shape}
 use Rattle.faults.specs.Reader.{line_answer}
 use Rattle.faults.specs.Fault.{shape_of, is_right}
 use Rattle.faults.specs.device.Calls.{Readable}
-use Rattle.faults.proofs.LineLaws.{line_fault, line_right, line_number}
+use Rattle.faults.proofs.LineLaws.{line_fault, line_faultless, line_right, line_number}
 use Rattle.text.specs.Decimals.{decimals, line_of}
 use Rattle.relay.specs.Refusals.{wrong_block}
+use Rattle.rows.specs.Refusals.{wrong_number}
 use Rattle.rows.specs.declared.refusal.Refusal.{Refusal}
 use Rattle.rows.specs.Refusal.{misshapen, without_place, accepted}
 use Rattle.rows.specs.Numbered.{numbered_answer}
@@ -25,7 +26,7 @@ use Rattle.rows.specs.Row.{last_row, largest_current, row_of, block_refusal, row
 use Rattle.rows.specs.Widths.{row_widths}
 use Rattle.checks.proofs.Cases.{by_cond}
 use Rattle.rows.proofs.AnswerNumbers.{flaw_refused, answer_numbers, answer_refused}
-use Rattle.rows.proofs.NumberedLaws.{NumberedRead, numbered_misshapen, numbered_rest, numbered_none, numbered_passed, numbered_refused, numbered_read}
+use Rattle.rows.proofs.NumberedLaws.{NumberedRead, numbered_misshapen, numbered_other, numbered_rest, numbered_none, numbered_passed, numbered_refused, numbered_read}
 use Rattle.faults.proofs.RightLaws.{faultless_right, right_faultless, faultless_shape}
 use Rattle.text.proofs.ShapeLaws.{shape_least, number_below, fits_none, fits_decimal}
 use Rattle.text.proofs.DecimalsLaws.{line_shaped, line_numbers}
@@ -60,6 +61,17 @@ module _ (s : List ℕ) (last : ℕ) where
   row_unread x e =
       let (same, some) = numbered_refused row_widths block_refusal s last x e in
       row_refused x same some
+
+  pub row_shape : (f : Fault) → Err f ≡ line_answer row_widths s → Err (misshapen (length row_widths) s f) ≡ row_answer s last
+  row_shape f e =
+      row_refused (misshapen (length row_widths) s f) (numbered_misshapen row_widths block_refusal s last f (line_fault row_widths s f e)) (flaw_refused f.flaw)
+
+  pub row_number : (ns : List ℕ) → Ok ns ≡ line_answer row_widths s → (get_or ns 0 0 ≡ last + 1 → ⊥) → Err (without_place wrong_number) ≡ row_answer s last
+  row_number ns e n =
+      row_refused (without_place wrong_number)
+      (numbered_other row_widths block_refusal s last (line_faultless row_widths s (omega arith) ns e)
+      (λ k. n ((line_number row_widths s (omega arith) ns e 0 (omega arith) (omega arith)).0 ∙ k)))
+      (λ k. omega arith)
 
   module _ (ns : List ℕ) (e : Ok ns ≡ numbered_answer row_widths s last) where
     read : NumberedRead row_widths block_refusal s last ns

@@ -1,14 +1,15 @@
 // What a line is refused with.
 ghost use Rattle.std.specs.Prelude.{◌≡◌};
-ghost use Rattle.rows.specs.Refusal.{flaw_number, has_mark, lf_for_cr_lf, semicolon_at, row_for_settings, hint_of, misshapen, without_place};
+ghost use Rattle.rows.specs.Refusal.{flaw_number, has_mark, lf_for_cr_lf, semicolon_at, row_for_settings};
+ghost use Rattle.rows.specs.Refusal.{hint_of, misshapen, without_place};
 
 use crate::refusals::{DIGIT_TOO_MANY, FIELD_COUNT, LINE_END, NO_DIGIT, STRAY_BYTE};
 use crate::widths::{ROW_WIDTHS, SETTINGS_WIDTHS};
 use faults::fault::{Fault, Flaw};
 use faults::reader::{byte_at, is_digit, read_line};
 
-// What a person is told beside the place: that LF stands there, where CR LF is due; that the line begins with a byte order mark; that a
-// semicolon stands there; or that the line may be data row 1, where the settings line is due.
+// What a person is told beside the place: that LF stands there, where CR LF is due; that the line begins with a byte order mark; that
+// a semicolon stands there; or that the line may be data row 1, where the settings line is due.
 #[derive(Clone, Copy, PartialEq, Eq)]
 pub enum Hint {
     LineFeed,
@@ -24,7 +25,7 @@ pub struct Place {
     pub field: usize,
 }
 
-// The number; of a wrong shape the place too, and what a person may be told of it.
+// The number, 0 for none, as the end line tells it; of a wrong shape the place too, and what a person may be told of it.
 #[derive(Clone, Copy, PartialEq, Eq)]
 pub struct Refusal {
     pub number: u32,

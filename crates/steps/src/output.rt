@@ -1,7 +1,8 @@
 // What the rows write, by the form: change lines, rows of the record, or the explanation of one row or of every row; and the end
 // line.
 ghost use Rattle.std.specs.Prelude.{◌+◌, ◌≤◌, length};
-ghost use Rattle.steps.specs.Output.{pair_line, change_line, change_room, change_of, record_row, row_explained, explained_of, note_of, note_room};
+ghost use Rattle.steps.specs.Output.{pair_line, change_line, change_room, change_of, record_row};
+ghost use Rattle.steps.specs.Output.{row_explained, explained_of, note_of, note_room};
 ghost use Rattle.steps.specs.Output.{end_line, end_room};
 ghost use Rattle.explanations.specs.Explanation.{explanation_room};
 ghost use Rattle.rows.specs.Row.{last_row};
@@ -65,7 +66,7 @@ pub fn note_change(page: &mut Page, row: u32, outputs: u8, before: u8)
     }
 }
 
-// The row of the record after `done` rows.
+// The row of the record after `done` rows. (`Notable` is of form, row and page together, which no value holds.)
 fn note_record(page: &mut Page, done: u32, x: Row, outputs: u8)
     requires { Notable Record done x page.old.at (length page.old.out.now) }
     ensures { Put longest_record page.old page.new (record_text (record_row (done + 1) x outputs)) }

@@ -37,6 +37,7 @@ pub struct Progress {
 }
 
 impl Progress {
+    // Settings of zeros where none came, which every check refuses: a row without settings is so refused.
     pub fn fresh(configuration: Configuration) -> Self
         ensures { result ≡ fresh_progress configuration }
     {
@@ -167,14 +168,14 @@ fn after_line(p: Progress, line: &[u8]) -> Progress
     }
 }
 
-// The line of the first n bytes held, which writes nothing; of all of them, where there are fewer.
+// The line of the first n bytes held, which writes nothing; of all of them, where there are fewer (so docs/SHEET.md has the call).
 pub fn after_held(p: Progress, held: &[u8], n: usize) -> Progress
     ensures { result ≡ after_line p (take n held.now) }
 {
     after_line(p, &held[..n.min(held.len())])
 }
 
-// By the lines alone: where no settings line came, it is one with no digit.
+// By the lines alone: where no settings line came, it is one with no digit. No Option: the end line tells 0 where nothing was refused.
 #[tactic(auto, using(rows::proofs::SettingsLineLaws::settings_empty), unfolding(crate::specs::Progress::stage_refusal))]
 fn stage_refusal(stage: Stage) -> Refusal
     ensures { result ≡ stage_refusal stage }

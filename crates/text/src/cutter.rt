@@ -34,6 +34,7 @@ fn cut_on(cutter: Cutter, portion: &[u8], from: usize, limit: usize, closer: Clo
         mut held,
         mut count,
     } = cutter;
+    // By index: `from` may be past the end, where no slice begins, and the answer is a place in the portion.
     for i in from..portion.len() {
         let cut = cut_byte(&mut held, count, portion[i], limit, closer);
         count += 1;

@@ -18,7 +18,7 @@ pub enum Cut {
     TooLong,
 }
 
-// Whether a line is closed.
+// Whether a line is closed. (A match: two patterns are shorter than a closure that each client hands on.)
 fn closes(line: &[u8], closer: Closer) -> bool
     ensures { result ≡ closed_by closer line.now }
 {

@@ -36,7 +36,7 @@ pub fn decimal_length(v: u32) -> usize
     v.max(1).ilog10() as usize + 1
 }
 
-// Writes a decimal at a place, and answers the place after it.
+// Writes a decimal at a place, and answers the place after it. (By hand: into a lent slice, with no heap.)
 pub fn put_decimal(out: &mut [u8], at: usize, v: u64) -> usize
     requires { at + length (decimal v) ≤ length out.old }
     ensures { Wrote out.old out.new at result (decimal v) }

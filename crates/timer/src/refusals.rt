@@ -9,6 +9,7 @@ pub const INVALID_TIMER: u32 = 8;
 
 pub const DELAY_TOO_LONG: u32 = 15;
 
+// 0 for none, as `Timed` tells it.
 pub(crate) fn refusal_of(state: TimerState, d: u32) -> u32
     ensures { result ≡ timer_refusal state d }
 {

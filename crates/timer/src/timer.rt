@@ -1,4 +1,4 @@
-// The four calls.
+// The four calls: names that the documents have, each a line with its rule (a body over `impl Fn` is as long).
 ghost use Rattle.std.specs.Prelude.{◌≡◌};
 ghost use Rattle.timer.specs.Timer.{set_delay_answer, hold_answer, reset_delay_answer, flip_flop_answer};
 

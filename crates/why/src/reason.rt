@@ -19,7 +19,7 @@ pub enum Reason {
     Tripped,
 }
 
-// The delay that the ticks running are held against.
+// The delay that the ticks running are held against. (A plan has it too: two lines, shorter than a public call for both.)
 fn delay_of(timing: Timing, settings: Settings) -> u32
     ensures { result ≡ delay_of timing settings }
 {

@@ -1,4 +1,5 @@
-// What each refusal number that a program can meet means. Several crates give these numbers: here they stand as the documents have them.
+// What each refusal number that a program can meet means. Several crates give these numbers: here they stand as the documents have
+// them.
 use rows::Hint;
 
 // Of 18 to 26, the part of a configuration that is at fault.
@@ -42,7 +43,7 @@ pub(crate) fn meaning(refusal: u32) -> &'static str {
     }
 }
 
-// What may be the matter with the file as a whole.
+// What may be the matter with the file as a whole. (No `Display`: the hints are another crate's.)
 pub(crate) fn hint_of(hint: Hint) -> &'static str {
     match hint {
         Hint::LineFeed => "the file seems to have LF line ends, where CR LF is due",
