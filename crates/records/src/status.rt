@@ -7,14 +7,12 @@ pub(crate) fn read_status(fields: &[u64]) -> Option<u8>
     requires { length fields.now ≤ 8 }
     ensures { result ≡ status_answer fields.now }
 {
-    // By places: of an `iter().rev()` in a `for` no law of std says which field comes.
     let mut byte = 0u8;
-    for k in (0..fields.len()).rev() {
-        let bit = fields[k];
-        if 1 < bit {
+    for bit in fields.iter().rev() {
+        if 1 < *bit {
             return None;
         }
-        byte = 2 * byte + bit as u8;
+        byte = 2 * byte + *bit as u8;
     }
     Some(byte)
 }
