@@ -1,11 +1,12 @@
 // How a line of the class's tables is written.
-use program::print;
+use program::was_taken;
 use std::fmt;
 use std::fmt::{Display, Formatter};
+use std::io::Print;
 
-// What standard output does not take is told by `print`, and the next is tried.
+// What standard output does not take is told by `was_taken`, and the next is tried.
 pub(crate) fn say<D: Display + Drop>(rt: HostRuntime, text: D) {
-    print(rt, text);
+    was_taken(rt, rt.stdout().print(text));
 }
 
 // The verdict on a line, and its end.

@@ -5,7 +5,8 @@
 mod asked;
 
 use asked::{Asked, read_arguments};
-use program::{print, say};
+use program::{say, was_taken};
+use std::io::Print;
 
 // None where the curve has no time at the ratio.
 fn time_at(operation: u32, ratio: u32) -> Option<u64> {
@@ -20,7 +21,7 @@ fn time_at(operation: u32, ratio: u32) -> Option<u64> {
 fn print_times(rt: HostRuntime, asked: Asked) {
     for ratio in asked.first..=asked.last {
         if let Some(time) = time_at(asked.operation, ratio)
-            && !print(rt, format_args!("{ratio},{time}\n"))
+            && !was_taken(rt, rt.stdout().print(format_args!("{ratio},{time}\n")))
         {
             return;
         }

@@ -11,7 +11,8 @@ use grading::margin::margin_at;
 use grading::margins::{Graded, margins};
 use grading::refusal::Relay;
 use input::{RefusedRelay, Relays, read_relays};
-use program::{print, say};
+use program::{say, was_taken};
+use std::io::Print;
 use words::say_reason;
 
 // `end,COUNT,SMALLEST,RATIO,NUMBER`: answers whether all of it was taken.
@@ -22,16 +23,15 @@ fn print_end(rt: HostRuntime, graded: Graded) -> bool {
         smallest,
         ratio,
     } = graded;
-    print(
-        rt,
-        format_args!("end,{count},{smallest},{ratio},{}\n", refusal.number),
-    )
+    let line = format_args!("end,{count},{smallest},{ratio},{}\n", refusal.number);
+    was_taken(rt, rt.stdout().print(line))
 }
 
 // The end line, the relay's name and the reason.
 fn refuse(rt: HostRuntime, refused: RefusedRelay) {
     let RefusedRelay { relay, refusal } = refused;
-    if !print(rt, format_args!("end,0,0,0,{}\n", refusal.number)) {
+    let line = format_args!("end,0,0,0,{}\n", refusal.number);
+    if !was_taken(rt, rt.stdout().print(line)) {
         return;
     }
     say(
@@ -63,7 +63,7 @@ fn grade(rt: HostRuntime, relays: Relays, wanted: i64) {
             "{ratio},{},{},{}\n",
             margin.upstream, margin.downstream, margin.difference
         );
-        if !print(rt, line) {
+        if !was_taken(rt, rt.stdout().print(line)) {
             return;
         }
     }

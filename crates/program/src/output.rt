@@ -1,13 +1,12 @@
 // Bytes to standard output and standard error. No contract can say what reaches a file: these say that no more bytes are
 // answered as taken than were lent.
-ghost use Rattle.std.specs.Prelude.{◌+◌, ◌≤◌, length};
+ghost use Rattle.std.specs.Prelude.{◌≡◌, ◌+◌, ◌≤◌, is_ok, length};
 ghost use Rattle.io.specs.Counts.{IsPrefixLen};
 ghost use Rattle.program.specs.Output.{NumberSaid};
 
 use crate::failure::{EINTR, say_failure};
 use io::decimal;
-use std::fmt::Display;
-use std::io::{Error, ErrorKind, Print, Result, Write};
+use std::io::{Error, ErrorKind, Result, Write};
 
 // How many bytes were taken, and what ended it: `Ok` where nothing failed. The count is there beside an error too: `write_out` and
 // `say` promise it.
@@ -74,12 +73,15 @@ pub fn say_number(rt: HostRuntime, n: u64) -> usize
     say(rt, &text[..count])
 }
 
-// Prints on standard output and answers whether all of it was taken: where a write failed, that is told on standard error.
-pub fn print<D: Display + Drop>(rt: HostRuntime, text: D) -> bool {
-    let printed = rt.stdout().print(text);
-    if let Err(error) = printed {
-        say_failure(rt, "writing", b"standard output", error);
-        return false;
+// Whether what was printed on standard output was taken: where it was not, that is told on standard error.
+pub fn was_taken(rt: HostRuntime, printed: Result<()>) -> bool
+    ensures { result ≡ is_ok printed }
+{
+    match printed {
+        Ok(()) => true,
+        Err(error) => {
+            say_failure(rt, "writing", b"standard output", error);
+            false
+        }
     }
-    true
 }
