@@ -28,6 +28,7 @@ pub fn kind_of(operation: u32) -> Kind
     ensures { result ≡ kind_of operation }
 {
     match operation {
+        0 => Kind::Off,
         1 => Kind::On(Timing::Definite),
         2..=5 => Kind::On(Timing::Curve(ResetRule::Iec)),
         6..=12 => Kind::On(Timing::Curve(ResetRule::Ansi)),
