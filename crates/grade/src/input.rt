@@ -2,7 +2,7 @@
 ghost use Rattle.std.specs.Prelude.{IfSome};
 ghost use Rattle.io.specs.Counts.{IsPrefixLen};
 
-use grading::refusal::Relay;
+use grading::refusal::{Relay, lower_of};
 use phase::Settings;
 use program::read_portion;
 use rows::{Refusal, read_settings_line};
@@ -56,10 +56,12 @@ fn read_line(input: &[u8], from: usize) -> Line {
     }
 }
 
-// Of two refusals: the shape of a line, which has a place, goes before any setting; of the settings the lowest number is told,
-// upstream's where both have it.
+// Of two refusals: the shape of a line, which has a place, goes before any setting; of the settings the lowest number is told, as of
+// two relays.
 fn is_downstream_told(upstream: Refusal, downstream: Refusal) -> bool {
-    upstream.place.is_none() && (downstream.place.is_some() || downstream.number < upstream.number)
+    let lower = lower_of(upstream.number, downstream.number, 0);
+    upstream.place.is_none()
+        && (downstream.place.is_some() || lower.relay == Some(Relay::Downstream))
 }
 
 fn relays_of(
