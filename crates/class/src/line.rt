@@ -1,12 +1,45 @@
 // How a line of the class's tables is written.
-use program::was_taken;
+use program::write_out;
 use std::fmt;
 use std::fmt::{Display, Formatter};
-use std::io::Print;
 
-// What standard output does not take is told by `was_taken`, and the next is tried.
+// Standard output, as a format writes on it: a piece that it does not take is told by `write_out`, and the next is tried.
+#[derive(Drop)]
+struct Pieces {
+    rt: HostRuntime,
+}
+
+impl fmt::Write for Pieces {
+    fn write_str(&mut self, piece: &str) -> fmt::Result {
+        write_out(self.rt, piece.as_bytes());
+        Ok(())
+    }
+}
+
 pub(crate) fn say<D: Display + Drop>(rt: HostRuntime, text: D) {
-    was_taken(rt, rt.stdout().print(text));
+    let _ = Formatter::new(Pieces { rt }).write(text);
+}
+
+// A column, of which each place is a piece.
+#[derive(Drop)]
+struct Places<'a, W> {
+    out: &'a mut Formatter<W>,
+}
+
+impl<W: fmt::Write> fmt::Write for Places<'_, W> {
+    fn write_str(&mut self, places: &str) -> fmt::Result {
+        for place in places.chars() {
+            self.out.write_char(place)?;
+        }
+        Ok(())
+    }
+}
+
+pub(crate) fn write_places<W: fmt::Write, D: Display + Drop>(
+    out: &mut Formatter<W>,
+    number: D,
+) -> fmt::Result {
+    Formatter::new(Places { out }).write(number)
 }
 
 // The verdict on a line, and its end.
@@ -34,7 +67,10 @@ pub(crate) struct Seconds(pub(crate) u64);
 impl Display for Seconds {
     fn fmt<W: fmt::Write>(&self, f: &mut Formatter<W>) -> fmt::Result {
         let time = self.0;
-        write!(f, "{:>4}.{:06}", time / 1000000, time % 1000000)
+        write_places(
+            f,
+            format_args!("{:>4}.{:06}", time / 1000000, time % 1000000),
+        )
     }
 }
 
@@ -45,7 +81,7 @@ pub(crate) struct Multiple(pub(crate) u32);
 impl Display for Multiple {
     fn fmt<W: fmt::Write>(&self, f: &mut Formatter<W>) -> fmt::Result {
         let ratio = self.0;
-        write!(f, "{:>4}.{:02}", ratio / 100, ratio % 100)
+        write_places(f, format_args!("{:>4}.{:02}", ratio / 100, ratio % 100))
     }
 }
 
@@ -61,9 +97,9 @@ impl Display for Printed {
         let seconds = self.milliseconds / 1000;
         let rest = self.milliseconds % 1000;
         match self.places {
-            1 => write!(f, "{seconds:>4}.{}  ", rest / 100),
-            2 => write!(f, "{seconds:>4}.{:02} ", rest / 10),
-            _ => write!(f, "{seconds:>4}.{rest:03}"),
+            1 => write_places(f, format_args!("{seconds:>4}.{}  ", rest / 100)),
+            2 => write_places(f, format_args!("{seconds:>4}.{:02} ", rest / 10)),
+            _ => write_places(f, format_args!("{seconds:>4}.{rest:03}")),
         }
     }
 }

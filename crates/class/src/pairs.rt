@@ -1,5 +1,5 @@
 // More current is never slower: pairs of recordings of one phase, the second with at least the current of the first at every tick.
-use crate::line::{say, verdict};
+use crate::line::{say, verdict, write_places};
 use crate::phases::settings_of;
 use phase::tick::tick;
 use phase::{PhaseState, Settings};
@@ -20,7 +20,7 @@ impl FirstTrip {
 impl Display for FirstTrip {
     fn fmt<W: fmt::Write>(&self, f: &mut Formatter<W>) -> fmt::Result {
         match self.0 {
-            Some(tick) => write!(f, "{tick}"),
+            Some(tick) => write_places(f, format_args!("{tick}")),
             None => write!(f, "none"),
         }
     }

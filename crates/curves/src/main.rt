@@ -6,7 +6,7 @@ mod asked;
 
 use asked::{Asked, read_arguments};
 use program::{say, was_taken};
-use std::io::Print;
+use std::io::Write;
 
 // None where the curve has no time at the ratio.
 fn time_at(operation: u32, ratio: u32) -> Option<u64> {
@@ -21,7 +21,7 @@ fn time_at(operation: u32, ratio: u32) -> Option<u64> {
 fn print_times(rt: HostRuntime, asked: Asked) {
     for ratio in asked.first..=asked.last {
         if let Some(time) = time_at(asked.operation, ratio)
-            && !was_taken(rt, rt.stdout().print(format_args!("{ratio},{time}\n")))
+            && !was_taken(rt, write!(rt.stdout(), "{ratio},{time}\n"))
         {
             return;
         }

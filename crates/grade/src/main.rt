@@ -11,8 +11,7 @@ use grading::margin::margin_at;
 use grading::margins::{Graded, margins};
 use grading::refusal::Relay;
 use input::{RefusedRelay, Relays, read_relays};
-use program::{say, was_taken};
-use std::io::Print;
+use program::{print_line, say};
 use words::say_reason;
 
 // `end,COUNT,SMALLEST,RATIO,NUMBER`: answers whether all of it was taken.
@@ -24,14 +23,14 @@ fn print_end(rt: HostRuntime, graded: Graded) -> bool {
         ratio,
     } = graded;
     let line = format_args!("end,{count},{smallest},{ratio},{}\n", refusal.number);
-    was_taken(rt, rt.stdout().print(line))
+    print_line(rt, line)
 }
 
 // The end line, the relay's name and the reason.
 fn refuse(rt: HostRuntime, refused: RefusedRelay) {
     let RefusedRelay { relay, refusal } = refused;
     let line = format_args!("end,0,0,0,{}\n", refusal.number);
-    if !was_taken(rt, rt.stdout().print(line)) {
+    if !print_line(rt, line) {
         return;
     }
     say(
@@ -63,7 +62,7 @@ fn grade(rt: HostRuntime, relays: Relays, wanted: i64) {
             "{ratio},{},{},{}\n",
             margin.upstream, margin.downstream, margin.difference
         );
-        if !was_taken(rt, rt.stdout().print(line)) {
+        if !print_line(rt, line) {
             return;
         }
     }

@@ -1,5 +1,6 @@
 // A call of the system that failed, told on standard error.
-use std::io::{Error, Write};
+use crate::output::{say, say_text};
+use std::io::Error;
 
 // A call that a signal interrupted. (These are the numbers of Linux.)
 pub(crate) const EINTR: i32 = 4;
@@ -41,11 +42,10 @@ fn words_of(error: i32) -> Option<&'static str> {
 // One line: what was tried on what, and why it failed. An error that is none of the system's is number 0.
 pub(crate) fn say_failure(rt: HostRuntime, tried: &str, on: &[u8], error: Error) {
     let number = error.raw_os_error().unwrap_or(0);
-    let mut out = rt.stderr();
-    let _ = write!(out, "failed: {tried} ");
-    let _ = out.write_all(on);
-    let _ = match words_of(number) {
-        Some(words) => writeln!(out, ": {words}"),
-        None => writeln!(out, ": error {number}"),
+    say_text(rt, format_args!("failed: {tried}"));
+    say(rt, on);
+    match words_of(number) {
+        Some(words) => say_text(rt, format_args!(": {words}\n")),
+        None => say_text(rt, format_args!(": error {number}\n")),
     };
 }

@@ -36,7 +36,7 @@ pub fn open_file(rt: HostRuntime, path: &[u8]) -> Option<File>
     match open(rt, path) {
         Ok(file) => Some(file),
         Err(error) => {
-            say_failure(rt, "opening", path, error);
+            say_failure(rt, "opening ", path, error);
             None
         }
     }

@@ -31,7 +31,7 @@ pub fn read_portion_of<R: Read>(
     match read(from, buf) {
         Ok(count) => Some(count),
         Err(error) => {
-            say_failure(rt, "reading", name, error);
+            say_failure(rt, "reading ", name, error);
             None
         }
     }

@@ -11,4 +11,4 @@ mod output;
 pub use arguments::{argument, argument_count, number_argument, number_of, path_argument};
 pub use file::{PATH_ROOM, open_file};
 pub use input::{read_portion, read_portion_of};
-pub use output::{say, say_number, was_taken, write_out};
+pub use output::{print_line, say, say_number, say_text, was_taken, write_out};

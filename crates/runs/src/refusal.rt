@@ -3,9 +3,8 @@ ghost use Rattle.std.specs.Prelude.{◌≡◌};
 ghost use Rattle.files.specs.Replay.{refusal_at_end};
 
 use files::Replay;
-use program::say;
+use program::{say, say_text};
 use rows::Refusal;
-use std::io::Write;
 use steps::refusals::WRONG_LAST_SAMPLE;
 use steps::{END_ROOM, Form};
 use words::say_reason;
@@ -19,19 +18,20 @@ fn say_end(rt: HostRuntime, state: Replay) {
 }
 
 // What was refused: the settings that a replay holds pass their check once a settings line was accepted; after it a line of the
-// configuration, or the row due.
+// configuration, of which none is number 0, or the row due.
 fn say_what(rt: HostRuntime, state: Replay, refusal: Refusal) {
     let progress = state.progress;
-    let mut out = rt.stderr();
-    let _ = if progress.settings.check() != 0 {
-        write!(out, "settings line")
+    if progress.settings.check() != 0 {
+        say(rt, b"settings line");
     } else if refusal.number == WRONG_LAST_SAMPLE {
-        write!(out, "recording")
-    } else if let Some(Err(fault)) = progress.configuration {
-        write!(out, "line {} of the configuration", fault.line)
+        say(rt, b"recording");
+    } else if let Some(Err(fault)) = progress.configuration
+        && fault.line != 0
+    {
+        say_text(rt, format_args!("line {} of the configuration", fault.line));
     } else {
-        write!(out, "row {}", progress.done as u64 + 1)
-    };
+        say_text(rt, format_args!("row {}", progress.done as u64 + 1));
+    }
 }
 
 // Says nothing where nothing was refused. Answers the refusal's number, which is all that a contract can say of it.

@@ -2,10 +2,10 @@
 ghost use Rattle.std.specs.Prelude.{◌≡◌};
 
 use crate::words::{hint_of, meaning, part};
+use program::say_text;
 use rows::{Place, Refusal};
 use std::fmt;
 use std::fmt::{Display, Formatter};
-use std::io::Write;
 
 // How a line ends that begins with what was refused.
 #[derive(Clone, Copy)]
@@ -27,7 +27,7 @@ impl Display for Reason {
             None => write!(f, "{}", meaning(number))?,
         }
         match hint {
-            Some(hint) => write!(f, "; {}", hint_of(hint)),
+            Some(hint) => write!(f, "{}", hint_of(hint)),
             None => Ok(()),
         }
     }
@@ -37,6 +37,6 @@ impl Display for Reason {
 pub fn say_reason(rt: HostRuntime, refusal: Refusal) -> u32
     ensures { result ≡ refusal.number }
 {
-    let _ = writeln!(rt.stderr(), "{}", Reason(refusal));
+    say_text(rt, format_args!("{}\n", Reason(refusal)));
     refusal.number
 }

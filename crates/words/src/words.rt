@@ -46,9 +46,9 @@ pub(crate) fn meaning(refusal: u32) -> &'static str {
 // What may be the matter with the file as a whole. (No `Display`: the hints are another crate's.)
 pub(crate) fn hint_of(hint: Hint) -> &'static str {
     match hint {
-        Hint::LineFeed => "the file seems to have LF line ends, where CR LF is due",
-        Hint::ByteOrderMark => "the line begins with a byte order mark",
-        Hint::Semicolon => "a semicolon stands here, where fields are parted by commas",
-        Hint::DataRow => "this looks like data row 1: is the settings line missing?",
+        Hint::LineFeed => "; the file seems to have LF line ends, where CR LF is due",
+        Hint::ByteOrderMark => "; the line begins with a byte order mark",
+        Hint::Semicolon => "; a semicolon stands here, where fields are parted by commas",
+        Hint::DataRow => "; this looks like data row 1: is the settings line missing?",
     }
 }
