@@ -10,8 +10,7 @@ ghost use Rattle.files.specs.Replay.{longest_line, portion_room};
 
 use asked::{Asked, read_argument};
 use files::{LONGEST_LINE, Replay};
-use program::say;
-use std::io::Write;
+use program::{say, say_text};
 use steps::{EXPLAIN_SPREAD, Form};
 
 // The room is counted as if every row wrote an explanation, so a portion is smaller than in the other programs.
@@ -20,7 +19,7 @@ const SMALL_PORTION: usize = 4096;
 const ROOM: usize = EXPLAIN_SPREAD * (LONGEST_LINE + SMALL_PORTION);
 
 // A portion fits its room in the form; the numbers are those of the two constants.
-fn run(rt: HostRuntime, form: Form) -> Option<Replay>
+fn run(rt: HostRuntime, form: Form) -> Result<Replay, Replay>
     requires { portion_room form longest_line 4096 ≤ 190486 }
 {
     let mut portion = [0u8; SMALL_PORTION];
@@ -29,20 +28,20 @@ fn run(rt: HostRuntime, form: Form) -> Option<Replay>
 }
 
 fn explain_all(rt: HostRuntime) {
-    if let Some(state) = run(rt, Form::ExplainAll) {
+    if let Ok(state) = run(rt, Form::ExplainAll) {
         runs::tell(rt, state);
     }
 }
 
 fn explain(rt: HostRuntime, row: u32) {
-    let Some(state) = run(rt, Form::Explain(row)) else {
+    let Ok(state) = run(rt, Form::Explain(row)) else {
         return;
     };
     if !files::has_answered(state) && runs::tell(rt, state) == 0 {
         let done = state.progress.done;
-        let _ = writeln!(
-            rt.stderr(),
-            "the recording has no row {row}; rows done: {done}"
+        say_text(
+            rt,
+            format_args!("the recording has no row {row}; rows done: {done}\n"),
         );
     }
 }

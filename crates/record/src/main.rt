@@ -12,7 +12,7 @@ const ROOM: usize = RECORD_SPREAD * (LONGEST_LINE + PORTION);
 fn main(rt: HostRuntime) {
     let mut portion = [0u8; PORTION];
     let mut rows = [0u8; ROOM];
-    if let Some(state) = runs::run(rt, Form::Record, None, &mut portion, &mut rows) {
+    if let Ok(state) = runs::run(rt, Form::Record, None, &mut portion, &mut rows) {
         runs::tell(rt, state);
     }
 }

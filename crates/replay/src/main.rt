@@ -23,7 +23,7 @@ fn main(rt: HostRuntime) {
     let configuration = arguments::asked_configuration(rt, &mut portion);
     let mut changes = [0u8; ROOM];
     let run = runs::run(rt, Form::Changes, configuration, &mut portion, &mut changes);
-    let Some(state) = run else {
+    let Ok(state) = run else {
         return;
     };
     let mut out = [0u8; END_ROOM];
