@@ -13,7 +13,7 @@ use lib.Signed.{lt_z}
 use mir.Syntax.{w64}
 use mir.Val.{SFits, to_z, of_z}
 use mir.ValLaws.{to_z-of_z}
-use Rattle.std.specs.Prelude.{Option, Some, None}
+use Rattle.std.specs.Prelude.{Option, Some, None, unwrap_or}
 use Rattle.phase.specs.declared.settings.Settings.{Settings}
 use Rattle.grading.specs.declared.margins.Smallest.{Smallest}
 use Rattle.grading.specs.Margin.{lowest_ratio, highest_ratio, difference_at}
@@ -57,9 +57,22 @@ lay_next false given xs ratio h = rw (append-nil xs)
 laid_length : (given xs : List ℕ) → length xs ≤ length given → length (laid given xs).list ≡ length given
 laid_length given xs h = rw (length-append xs (drop (length xs) given), length-drop (length xs) given) (omega arith)
 
--- as the code finds it: both differences go through their 64 bits
-pub smaller_by : (before : Smallest) (z : ℤ) (ratio : ℕ) (t : Bool) → SFits w64 z → SFits w64 before.difference → lt_z (to_z w64 (of_z w64 z)) (to_z w64 (of_z w64 before.difference)) ≡ t → cond t (record { difference = to_z w64 (of_z w64 z); ratio = ratio }) before ≡ smaller_of (Some before) z ratio
-smaller_by before z ratio t fits fit e = rw (sym e, to_z-of_z w64 z fits, to_z-of_z w64 before.difference fit)
+-- ---- the smallest
+
+-- whether the ratio at hand is the smallest so far: the first is, then where its difference is smaller. As the code finds it: both
+-- differences go through their 64 bits
+abbrev pub is_smaller : Option Smallest → ℤ → Bool
+is_smaller None z = true
+is_smaller (Some before) z = lt_z (to_z w64 (of_z w64 z)) (to_z w64 (of_z w64 before.difference))
+
+-- that of those before fits its 64 bits, where there is one
+abbrev pub BeforeFits : Option Smallest → Type 0
+BeforeFits None = Unit {0}
+BeforeFits (Some before) = SFits w64 before.difference
+
+pub smaller_by : (before : Option Smallest) (least : Smallest) (z : ℤ) (ratio : ℕ) (t : Bool) → SFits w64 z → BeforeFits before → is_smaller before z ≡ t → cond t (record { difference = to_z w64 (of_z w64 z); ratio = ratio }) (unwrap_or before least) ≡ smaller_of before z ratio
+smaller_by None least z ratio t fits fit e = rw (sym e, to_z-of_z w64 z fits)
+smaller_by (Some before) least z ratio t fits fit e = rw (sym e, to_z-of_z w64 z fits, to_z-of_z w64 before.difference fit)
 
 -- ---- the invariant
 
