@@ -4,12 +4,12 @@ use mathlib.Core.Path.{◌≡◌, refl, sym, ap, ◌∙◌}
 use mathlib.Core.Bool.{Bool, true, false, cond, ◌&&◌, and-false}
 use mathlib.Core.List.{List, [], ◌∷◌, ◌++◌}
 use mathlib.Core.Logic.{⊎_elim}
-use Prim.Native.Nat.{ℕ, suc, ◌+◌, ◌-◌, ◌≤◌, ◌<◌}
-use native.Mathlib.Nat.{eq-or-lt_of_le}
+use Prim.Native.Nat.{ℕ, zero, suc, ◌+◌, ◌-◌, ◌≤◌, ◌<◌}
+use native.Mathlib.Nat.{le_of_suc-le-suc, not-suc-le-zero, eq-or-lt_of_le}
 use native.Mathlib.Omega.{arith}
 use lib.Dec.{leb, ltb}
-use Rattle.std.specs.Prelude.{Option, Some, None, is_none, Result}
-use lib.ListN.{length, drop, length-append, length-take}
+use Rattle.std.specs.Prelude.{Option, Some, None, is_none, Result, Ok, Err}
+use lib.ListN.{length, get_or, drop, length-append, length-take}
 use lib.Seq.{drop-cons}
 use borrow.Author.Tests.{lt-leb, lt-ltb, le-ltb, ltb-true, ltb-false}
 use Rattle.text.specs.Line.{ends_cr_lf}
@@ -28,7 +28,7 @@ use Rattle.config.specs.Config.{refused_at, last_after, read_from, config_of}
 use Rattle.config.specs.Reader.{is_due, is_right_at, number_due, passed, refused, after_line_if, after_line, after_lines, malformed, malformed_if}
 use Rattle.config.specs.Reader.{line_limit, fresh_reader, cut_portion, taken, taken_if, take_answer, taken_all, last_reading, end_refusal, answer_by, answer_of, end_answer}
 use Rattle.checks.proofs.Cases.{by_cond}
-use Rattle.checks.proofs.Tests.{is_in_range, above_range}
+use Rattle.checks.proofs.Tests.{both_true, in_range_law, is_in_range, above_range}
 use Rattle.text.proofs.CutLaws.{lines_cons, lines_nil, last_nothing, last_line_law, joined_none, joined_more}
 use Rattle.text.proofs.CuttingLaws.{cut_lines, all_read, long_held}
 use Rattle.text.proofs.KeptLaws.{empty_holds, line_kept, still_holds}
@@ -253,3 +253,48 @@ refused_for_good r ps h =
     let still = ap (λ (q : Reading). is_none q.refusal) all ∙ h in
     ap answer_of
     (kept_if (ltb 0 (taken_all r ps).cutter.count) (taken_all r ps).reading still ∙ all ∙ sym (kept_if (ltb 0 r.cutter.count) r.reading h))
+
+-- ---- no refusal has the number 0, which a caller reads as 'accepted' (`config_number`)
+
+abbrev none_zero : List Shape → Bool
+none_zero [] = true
+none_zero (x ∷ xs) = ltb 0 x.number && none_zero xs
+
+some_at : (xs : List Shape) → none_zero xs ≡ true → (n : ℕ) → n < length xs → 0 < (get_or xs n no_shape).number
+some_at [] e n h = absurd (not-suc-le-zero h)
+some_at (x ∷ xs) e zero h = ltb-true 0 x.number (both_true (ltb 0 x.number) (none_zero xs) e).0
+some_at (x ∷ xs) e (suc n) h = some_at xs (both_true (ltb 0 x.number) (none_zero xs) e).1 n (le_of_suc-le-suc h)
+
+pub number_some : (line : ℕ) → 0 < number_due line
+number_some line =
+    by_cond (λ (n : ℕ). 0 < n) (is_due line) (shape_at (line - 1)).number multiplier
+    (λ e.
+    let (low, high) = in_range_law 1 line_count line e in
+    some_at shapes refl (line - 1) (omega (arith, low, high)))
+    (λ e. omega arith)
+
+-- a file that is accepted has no refusal
+abbrev RefusedSome : Result ℕ Fault → Type 0
+RefusedSome (Ok last) = Unit {0}
+RefusedSome (Err x) = 0 < x.refusal
+
+read_refused_some : (line last : ℕ) (xs : List Shape) (ls : List (List ℕ)) → none_zero xs ≡ true → RefusedSome (read_from line last xs ls)
+unfolding read_from
+read_refused_some line last [] [] e = tt
+read_refused_some line last [] (l ∷ ls) e = omega arith
+read_refused_some line last (x ∷ xs) [] e = ltb-true 0 x.number (both_true (ltb 0 x.number) (none_zero xs) e).0
+read_refused_some line last (x ∷ xs) (l ∷ ls) e =
+    let (here, others) = both_true (ltb 0 x.number) (none_zero xs) e in
+    by_cond RefusedSome (is_right x.fields l) (read_from (line + 1) (last_after line l last) xs ls) (refused_at x.number line)
+    (λ t. read_refused_some (line + 1) (last_after line l last) xs ls others)
+    (λ t. ltb-true 0 x.number here)
+
+pub refused_some : (s : List ℕ) (x : Fault) → config_of s ≡ Err x → 0 < x.refusal
+unfolding config_of
+refused_some s x e =
+    let some : RefusedSome (config_of s) = read_refused_some 1 0 shapes (lines_of CrLf s) refl in
+    rw e at some
+
+-- nor has what `Reader::finish` answers, for any cutting of the file
+pub end_refused_some : (ps : List (List ℕ)) (x : Fault) → end_answer (taken_all fresh_reader ps) ≡ Err x → 0 < x.refusal
+end_refused_some ps x e = refused_some (joined ps) x (sym (config_of_calls ps) ∙ e)
