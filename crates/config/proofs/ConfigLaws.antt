@@ -291,10 +291,10 @@ read_refused_some line last (x ∷ xs) (l ∷ ls) e =
 
 pub refused_some : (s : List ℕ) (x : Fault) → config_of s ≡ Err x → 0 < x.refusal
 unfolding config_of
-refused_some s x e =
+refused_some s fault e =
     let some : RefusedSome (config_of s) = read_refused_some 1 0 shapes (lines_of CrLf s) refl in
     rw e at some
 
 -- nor has what `Reader::finish` answers, for any cutting of the file
 pub end_refused_some : (ps : List (List ℕ)) (x : Fault) → end_answer (taken_all fresh_reader ps) ≡ Err x → 0 < x.refusal
-end_refused_some ps x e = refused_some (joined ps) x (sym (config_of_calls ps) ∙ e)
+end_refused_some ps fault e = refused_some (joined ps) fault (sym (config_of_calls ps) ∙ e)

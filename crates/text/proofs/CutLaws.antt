@@ -9,6 +9,7 @@ use lib.Dec.{eqb}
 use lib.ListN.{length, get_or, take, length-append, length-take}
 use lib.Seq.{take-suc, append_snoc, take_all}
 use borrow.Author.Tests.{eq-eqb, ne_eqb, eqb-true, eqb-false}
+use Rattle.std.proofs.lemmas.Bool.Decides.{nat_tests}
 use Rattle.text.specs.declared.lines.Closer.{Closer}
 use Rattle.text.specs.declared.lines.Cut.{Cut}
 use Rattle.text.specs.declared.lines.Cut.TheVariants.{Held, Closed, TooLong}
@@ -54,6 +55,9 @@ unfolding ends_cr_lf is_lf
 cr_lf_none [] h = refl
 cr_lf_none (a ∷ []) h = rw (and-false (eqb a cr))
 cr_lf_none (a ∷ b ∷ l) h = absurd (omega arith)
+
+-- what the check of `closes` goes by
+pub ruleset closing_laws = (nat_tests, lf_at, lf_none, cr_lf_at, cr_lf_none)
 
 -- ---- what the cutter answers, by the line
 

@@ -19,6 +19,7 @@ pub enum Cut {
 }
 
 // Whether a line is closed. (A match: two patterns are shorter than a closure that each client hands on.)
+#[tactic(auto, using(crate::proofs::CutLaws::closing_laws))]
 fn closes(line: &[u8], closer: Closer) -> bool
     ensures { result ≡ closed_by closer line.now }
 {
