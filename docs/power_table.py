@@ -2,7 +2,8 @@
 """Prints the table of X(m), m from 101 to 2000, as it stands in crates/powers/src/power_table.rt.
 
 X(m) is the least whole number X with m x X^50 at least 100 x (X + 1,000,000)^50 (document 01, 'Curve numbers').
-Nothing rests on this script: the check computes the rule over its list in the proofs, and compares the table with it.
+Nothing rests on this script: the check computes the rule over the table itself (`table_rule`, in crates/powers/proofs/PowerTable.antt,
+is over `X_TABLE`).
 """
 
 
