@@ -44,8 +44,10 @@ pub(crate) fn say_failure(rt: HostRuntime, tried: &str, on: &[u8], error: Error)
     let number = error.raw_os_error().unwrap_or(0);
     say_text(rt, format_args!("failed: {tried}"));
     say(rt, on);
+    say(rt, b": ");
     match words_of(number) {
-        Some(words) => say_text(rt, format_args!(": {words}\n")),
-        None => say_text(rt, format_args!(": error {number}\n")),
+        Some(words) => say(rt, words.as_bytes()),
+        None => say_text(rt, format_args!("error {number}")),
     };
+    say(rt, b"\n");
 }
